@@ -62,7 +62,7 @@ impl DeserializeOwned for Parity {
 /// A filter of messages.
 #[derive(Debug, Drop)]
 pub struct Filter {
-    /// The number of the messages that pass.
+    /// The id of the messages that pass.
     pub id: u16,
     /// A remark.
     pub note: Option<String>,

@@ -1,5 +1,5 @@
-//! Messages that announce more elements than they have, by which the memory that a growing type
-//! requests for them is measured.
+//! Messages that announce more elements than they have, by which the memory that a type requests
+//! for them is measured.
 
 use arrayvec::{ArrayString, ArrayVec};
 use postcard::{Deserialize, from_bytes};

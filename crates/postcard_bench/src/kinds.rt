@@ -1,4 +1,4 @@
-//! Lists and maps of many types: a message is decoded, or its value encoded, many times.
+//! Lists and maps of many types: a message is decoded, or its value encoded or counted, many times.
 
 use crate::records::Record;
 use postcard::experimental::serialized_size;
@@ -105,8 +105,8 @@ pub extern "C" fn port_write(
     }
 }
 
-/// Decodes the message as [`port_read`] does, once, and counts its value's bytes `rounds` times. Returns the sum of the counts.
-/// Only for texts, maps and records.
+/// Does [`size`] with the type that has the number `kind` in [`port_read`], of texts, maps and
+/// records. Returns 0 for another number.
 #[unsafe(no_mangle)]
 pub extern "C" fn port_size(alloc: Global, kind: u32, bytes: &[u8], rounds: u32) -> u64 {
     match kind {

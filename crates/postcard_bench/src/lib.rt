@@ -3,8 +3,8 @@
 //! The name of each begins with `port_`, as those of plain C with `plain_`; `small` stands for small
 //! records.
 //!
-//! Each export returns a number that depends on what it wrote or read, so that no work can be
-//! optimized away, mostly `u64::MAX` if encoding or decoding fails. The page `docs/SPEED.md` says how they are measured, and has the results.
+//! Most return a number that depends on what was written or read, so that no work can be optimized
+//! away, and `u64::MAX` if encoding or decoding fails. The page `docs/SPEED.md` says how they are measured, and has the results.
 #![tactic(auto)]
 
 mod checksums;

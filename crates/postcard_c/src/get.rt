@@ -9,9 +9,6 @@
 //! index, a count or a length fails with `DeserializeBadVarint` if its varint has more bytes than
 //! its width allows, 3, 5, 10 or 19 for 16, 32, 64 or 128 bits, or its number more bits. A call
 //! with an error of its own says so.
-//!
-//! `open` returns a source of the bytes that aren't read yet. `settle` ends a call: it writes the
-//! value and moves the reader on, or keeps the error, and returns the status.
 
 ghost use Rattle.std.specs.Prelude.{◌≡◌, ◌+◌, ◌*◌, ◌^◌, ◌<◌};
 ghost use Rattle.postcard_c.specs.{AreBytesOf, BadBool, BadChar, BadNumber, BadText, Boolean, Byte};
@@ -208,7 +205,7 @@ fn get_signed(reader: &mut Reader<'_>, value: &mut i128) -> u32
 
 /// Reads a character, as its code. A length of 64 bits and that many bytes are read, of which the
 /// first character counts, as in postcard 1.1.3. Fails with `DeserializeBadChar` if the length is
-/// above 4 or 0, or the bytes are not UTF-8.
+/// 0 or above 4, or the bytes are not UTF-8.
 #[unsafe(no_mangle)]
 pub extern "C" fn postcard_get_char(reader: &mut Reader<'_>, code: &mut u32) -> u32
     ensures { Gets IsChar (λ t v. t ≡ Char v) WantsChar BadChar

@@ -34,7 +34,7 @@ pub(crate) fn rest_at(bytes: &[u8], place: usize) -> &[u8]
     &bytes[place..]
 }
 
-/// Returns a source of the bytes that aren't read yet.
+/// Returns a deserializer of the bytes that aren't read yet.
 pub(crate) fn open<'a>(reader: &Reader<'a>) -> Deserializer<'a, Slice<'a>>
     ensures { source_of result ≡ rest_of reader.now }
 {

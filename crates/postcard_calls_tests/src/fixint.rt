@@ -145,7 +145,7 @@ fn front(bytes: &[u8; 16], width: usize) -> &[u8] {
     bytes.get(..width).unwrap_or(bytes)
 }
 
-/// Asserts so of an unsigned type of `width` bytes: of the number of [`COUNT`], of 0 and of the
+/// Asserts what [`assert_both_ways`] does of an unsigned type of `width` bytes: of the number of [`COUNT`], of 0 and of the
 /// greatest number.
 fn assert_unsigned<T: FixInt + PartialEq + Debug>(
     rt: &(impl Abort + AllocGlobal),
@@ -159,7 +159,7 @@ fn assert_unsigned<T: FixInt + PartialEq + Debug>(
     assert_both_ways(rt, greatest, front(&ONES, width));
 }
 
-/// Asserts so of a signed type of `width` bytes: of the number of [`COUNT`], of -1, of the greatest
+/// Asserts what [`assert_both_ways`] does of a signed type of `width` bytes: of the number of [`COUNT`], of -1, of the greatest
 /// number and of the least.
 fn assert_signed<T: FixInt + PartialEq + Debug>(
     rt: &(impl Abort + AllocGlobal),

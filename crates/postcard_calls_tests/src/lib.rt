@@ -1,7 +1,6 @@
 //! Tests of the calls of `postcard` beside the rows of `postcard_rows`: each call at a concrete type,
-//! the calls of a `Serializer` and of a `Deserializer`, those of the impls of a user's types, numbers
-//! at their full width, greatest sizes, the examples of the pages, and the types, flavors and theorems
-//! of `example_types`.
+//! the calls of a `Deserializer`, those of the impls of a user's types, numbers at their full width,
+//! greatest sizes, the examples of the pages, and the types, flavors and theorems of `example_types`.
 #![tactic(auto)]
 
 #[cfg(test)]
@@ -22,8 +21,6 @@ mod long_tuples;
 mod reading;
 #[cfg(test)]
 mod refusals;
-#[cfg(test)]
-mod serializer;
 #[cfg(test)]
 mod sizes;
 #[cfg(test)]

@@ -14,7 +14,7 @@ use std::process::Abort;
 const TUPLE: [u8; 9] = [0x01, 0x0A, 0x06, 0x48, 0x65, 0x6C, 0x6C, 0x6F, 0x21];
 
 #[test]
-fn into_each_flavor(rt: HostRuntime) {
+fn a_tuple_into_vectors_and_counted(rt: HostRuntime) {
     let tuple = (1u8, 10u32, "Hello!");
     same(&rt, to_vec::<_, 9>(&tuple), Ok(ArrayVec::from(TUPLE)));
     same(

@@ -42,7 +42,7 @@ CRC-64/ECMA-182 64  6c40df5f0b497347
 CRC-82/DARC     82  09ea83f625023801fd612
 ";
 
-/// The algorithms of the catalogue.
+/// A checksum by its algorithm, one of those of the catalogue.
 #[derive(Clone, Copy, Debug, PartialEq, Eq)]
 pub enum Checksum {
     Crc8Smbus,

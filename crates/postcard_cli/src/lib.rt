@@ -1,5 +1,5 @@
-//! What the program `pcard` does: it encodes a value in the Postcard format, or decodes bytes or a
-//! stream of frames. [`program::run`] runs the call of some words, over any reader as its input and
+//! What the program `pcard` does: it encodes a value in the Postcard format, decodes and explains
+//! bytes, decodes a stream of frames, and prints sizes and checksums. [`program::run`] runs the call of some words, over any reader as its input and
 //! any writer as its output.
 //!
 //! Where nothing else is said, a function that prints fails with `Output` if the output can't be

@@ -14,12 +14,12 @@ IsAttribute tokens i b =
 abbrev pub IsLimit : List Token → ℕ → Type 0
 IsLimit tokens i = IsAt (codes "crate") tokens i ⊎ (IsAt (codes "self") tokens i ⊎ IsAt (codes "super") tokens i)
 
--- At index i a bracket begins that limits a `pub`: `(crate)`, `(self)`, `(super)` or `(in ..)`.
+-- At index i the bracket of the scope of a `pub` begins: `(crate)`, `(self)`, `(super)` or `(in ..)`.
 abbrev pub IsScope : List Token → ℕ → Type 0
 IsScope tokens i = IsAt (codes "(") tokens i
     × (IsAt (codes "in") tokens (i + 1) ⊎ (IsLimit tokens (i + 1) × IsAt (codes ")") tokens (i + 2)))
 
--- At index i is the `#` or the `pub` of an attribute or a limit, whose bracket is at index b.
+-- At index i is the `#` or the `pub` of an attribute or a scope, whose bracket is at index b.
 abbrev pub HasBracket : List Token → ℕ → ℕ → Type 0
 HasBracket tokens i b =
     (IsAt (codes "#") tokens i × IsAttribute tokens (i + 1) b)

@@ -50,7 +50,7 @@ fn keep_next<'a>(
     }
 }
 
-/// Returns the index of the bracket of the attribute or of the limit of a visibility that begins at
+/// Returns the index of the bracket of the attribute or of the scope of a visibility that begins at
 /// the index, or `None` if none does.
 fn bracket_from(tokens: &[Token], at: usize) -> Option<usize>
     ensures found { IfSome result (λ bracket. HasBracket tokens.now at bracket) }

@@ -13,7 +13,7 @@
 //! | `enum A { B, C(T), D { a: U } = 5 }` | `(\| B \| C(T) \| D { a: U })` |
 //! | `type A = T;` | `(T)` |
 //!
-//! Passed over are comments, attributes, lifetimes, `pub` and its limit, as `pub(crate)`, paths
+//! Passed over are comments, attributes, lifetimes, `pub` and its scope, as `pub(crate)`, paths
 //! before a name, and the number of a variant, which is one word after `=`, or after `=` and `-`.
 //! An item ends with its first `;` or `}` outside of all brackets; one that doesn't begin with
 //! `struct`, `enum` or `type` is passed over. Types with parameters aren't supported. With its

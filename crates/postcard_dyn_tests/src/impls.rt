@@ -44,7 +44,7 @@ fn other() -> char {
 type Row<'a> = (&'a str, &'a str);
 
 /// Files that are refused.
-const REFUSED: [Row; 33] = [
+const REFUSED: [Row; 34] = [
     (
         "#[derive(Drop)]\nstruct A {\n    b: RefCell<u8>,\n}",
         "line 3, column 5: `b`: values of this type aren't written and read",
@@ -92,6 +92,10 @@ const REFUSED: [Row; 33] = [
     (
         "#[derive(Drop)] struct A(Vec<B>); #[derive(Drop)] enum B { C(A), D }",
         "line 1, column 30: `B`: this type has itself in it",
+    ),
+    (
+        "#[derive(Drop)] struct A(B); #[derive(Drop)] struct B(Vec<B>);",
+        "line 1, column 59: `B`: this type has itself in it",
     ),
     (
         "struct A(u8);",

@@ -41,7 +41,7 @@ const NOT_SERVED: [&[u8]; 27] = [
 ];
 
 /// Words of types that hold no memory of their own.
-const NO_MEMORY: [&[u8]; 48] = [
+const NO_MEMORY: [&[u8]; 44] = [
     b"u8",
     b"u16",
     b"u32",
@@ -86,10 +86,6 @@ const NO_MEMORY: [&[u8]; 48] = [
     b"NonZeroU16",
     b"NonZeroU32",
     b"NonZeroU64",
-    b"std",
-    b"core",
-    b"postcard",
-    b"fixint",
 ];
 
 /// How many variants an enum has at most whose plain form is proved.
@@ -111,7 +107,7 @@ pub(crate) enum Form {
     Seen,
 }
 
-/// Returns the form of each item. Fails at the first item that has itself in it, and else at the
+/// Returns the form of each item. Fails at an item that has itself in it, and else at the
 /// first field whose type has no impls that would be proved, and with `OutOfMemory`.
 pub(crate) fn forms(
     alloc: Global,
@@ -221,12 +217,36 @@ fn check_recursion(alloc: Global, tokens: &[Token], items: &[Item]) -> Result<()
             }
         }
     }
-    for item in items {
+    for (index, item) in items.iter().enumerate() {
         if let Some(at) = first_open(tokens, items, done.as_slice(), item) {
-            return Err(problem_at(tokens, at, ImplProblem::Recursive));
+            if leads_back(tokens, items, done.as_slice(), index) {
+                return Err(problem_at(tokens, at, ImplProblem::Recursive));
+            }
         }
     }
     Ok(())
+}
+
+/// Returns whether the first item that isn't done which the item at the index names, the first that
+/// this one names, and so on lead back to it.
+fn leads_back(tokens: &[Token], items: &[Item], done: &[bool], index: usize) -> bool {
+    let mut at = index;
+    for _ in items {
+        let Some(next) = first_open_item(tokens, items, done, at) else {
+            return false;
+        };
+        if next == index {
+            return true;
+        }
+        at = next;
+    }
+    false
+}
+
+fn first_open_item(tokens: &[Token], items: &[Item], done: &[bool], at: usize) -> Option<usize> {
+    let item = items.get(at)?;
+    let open = first_open(tokens, items, done, item)?;
+    named(items, token_at(tokens, open)?)
 }
 
 /// Returns the index of the first token in the types of an item that [`open_in`] finds, if there is

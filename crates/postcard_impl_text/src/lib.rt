@@ -13,8 +13,8 @@
 //! them the prover might give up. A type that has no impls that would be proved is refused with the
 //! place of the field, by one of [`ImplProblem`].
 //!
-//! In three steps, one module each: the items of the file (`read`), which impls each has (`form`),
-//! and their text (`structs`, `enums`), in a `Text` that keeps its failure for the end.
+//! In three steps: the items of the file (`read`), which impls each has (`form`), and their text
+//! (`write`, by `structs` and `enums`), in a `Text` that keeps its failure for the end.
 #![tactic(auto)]
 
 mod enums;

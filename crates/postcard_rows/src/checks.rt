@@ -57,8 +57,8 @@ fn from_owned<T: DeserializeOwned>(alloc: Global, bytes: &[u8]) -> Result<T> {
     }
 }
 
-/// Requires that the value is written into a buffer of `room` bytes, after which as many bytes are
-/// unchanged as are left, or that it is refused, if it doesn't fit.
+/// Requires that the value is written into the buffer, whose other bytes are unchanged, or that it is
+/// refused, if it doesn't fit.
 fn fills<T: Serialize>(alloc: Global, value: &T, want: &[u8], buffer: &mut [u8]) -> Outcome {
     for byte in buffer.iter_mut() {
         *byte = OLD;
@@ -89,7 +89,7 @@ fn fills<T: Serialize>(alloc: Global, value: &T, want: &[u8], buffer: &mut [u8])
 ///
 /// No clause says that these calls succeed. On rows of more than 600 bytes this is the only test
 /// that would catch one of their flavors refusing a longer message though memory is left.
-fn grows<T: Serialize>(alloc: Global, value: &T, want: &[u8]) -> Outcome {
+fn written_growing<T: Serialize>(alloc: Global, value: &T, want: &[u8]) -> Outcome {
     let mut after = vec![in alloc; OLD]?;
     after.extend_from_slice(want)?;
     let after = Ok(after);
@@ -144,18 +144,18 @@ fn check<'a, T: Serialize + Deserialize<'a> + Debug>(
     scratch: &'a mut [u8],
 ) -> Outcome {
     let bytes: &'a [u8] = row.bytes.as_slice();
-    let encoding: &'a [u8] = row.encoding.as_slice();
+    let encoding: &'a [u8] = row.spelled.as_slice();
     same(
         alloc,
         "take_from_bytes",
         &take_from_bytes::<T>(alloc, bytes),
-        &row.front,
+        &row.taken,
     )?;
     same(
         alloc,
         "from_io",
         &from_reader::<T>(alloc, bytes, scratch),
-        &row.front,
+        &row.taken,
     )?;
     let answer = from_bytes::<T>(alloc, encoding);
     same(alloc, "from_bytes", &answer, &row.value)?;
@@ -167,18 +167,18 @@ fn check<'a, T: Serialize + Deserialize<'a> + Debug>(
         return Ok(());
     }
     written(alloc, &value, encoding)?;
-    grows(alloc, &value, encoding)
+    written_growing(alloc, &value, encoding)
 }
 
 /// Requires that the value of the row is written as other bytes, which are read as the same value.
 fn rewritten<T: Serialize + DeserializeOwned + Debug>(alloc: Global, row: &Row<'_>) -> Outcome {
-    let answer = match from_owned::<T>(alloc, row.encoding.as_slice()) {
+    let answer = match from_owned::<T>(alloc, row.spelled.as_slice()) {
         Ok(value) => to_allocvec(alloc, &value),
         Err(error) => Err(error),
     };
     match answer {
         Ok(bytes) => {
-            let is_other = bytes.as_slice() != row.encoding.as_slice();
+            let is_other = bytes.as_slice() != row.spelled.as_slice();
             equal(
                 alloc,
                 "the value is written as other bytes",
@@ -198,7 +198,7 @@ fn rewritten<T: Serialize + DeserializeOwned + Debug>(alloc: Global, row: &Row<'
 
 /// Requires that the value of the row has the greatest size of its type.
 fn greatest<T: Serialize + DeserializeOwned + MaxSize>(alloc: Global, row: &Row<'_>) -> Outcome {
-    let bytes = row.encoding.as_slice();
+    let bytes = row.spelled.as_slice();
     let size = T::postcard_max_size();
     equal(alloc, "postcard_max_size", &size, &Some(bytes.len()))?;
     let mut buffer = bytes.to_vec(alloc)?;

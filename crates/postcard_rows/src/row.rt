@@ -23,7 +23,7 @@ pub struct Row<'a> {
     /// The type.
     pub name: &'a str,
     /// The bytes of the value, or those that are refused.
-    pub encoding: Vec<u8>,
+    pub spelled: Vec<u8>,
     /// The bytes of the value, and those after them.
     pub bytes: Vec<u8>,
     /// What the row says of them.
@@ -31,7 +31,7 @@ pub struct Row<'a> {
     /// The result of reading a value, as text.
     pub value: String,
     /// The result of reading a value and what is after it, as text.
-    pub front: String,
+    pub taken: String,
     /// Whether the row must fail.
     pub fails: bool,
 }
@@ -82,11 +82,11 @@ impl<'a> Row<'a> {
         };
         let mark = mark_of(word)?;
         let (front, after) = digits.split_once('+').unwrap_or((digits, "-"));
-        let encoding = bytes_of(alloc, front)?;
+        let spelled = bytes_of(alloc, front)?;
         let after = bytes_of(alloc, after)?;
-        let mut bytes = encoding.clone()?;
+        let mut bytes = spelled.clone()?;
         bytes.extend_from_slice(&after)?;
-        let (value, front) = if mark == Mark::Refused {
+        let (value, taken) = if mark == Mark::Refused {
             let refused = format!(in alloc; "Err({text})")?;
             (refused.clone()?, refused)
         } else {
@@ -95,11 +95,11 @@ impl<'a> Row<'a> {
         };
         Ok(Some(Row {
             name,
-            encoding,
+            spelled,
             bytes,
             mark,
             value,
-            front,
+            taken,
             fails,
         }))
     }

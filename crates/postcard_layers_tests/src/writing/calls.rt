@@ -1,4 +1,5 @@
-//! Tests of each call of the serializer, with values whose bytes were worked out by hand.
+//! Tests of the calls of the serializer but those for numbers and texts, with values whose bytes were
+//! worked out by hand.
 
 use super::assert_holds;
 use crate::asserts::{same, same_bytes};
