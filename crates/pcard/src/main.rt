@@ -1,7 +1,7 @@
 //! The program `pcard`, which encodes a value in the Postcard format, decodes and explains bytes,
 //! decodes a stream of frames, and prints sizes, checksums and the impls of a file's types. The
-//! library `postcard_cli` does its work;
-//! `postcard_cli_files` reads types from files, and `postcard_impl` makes impls.
+//! library `postcard_cli` does its work, `postcard_cli_files` reads types from files, and
+//! `postcard_impl` makes impls.
 #![tactic(auto)]
 
 use postcard_cli::{Failure, report};
