@@ -10,10 +10,7 @@ pub const LONGEST: usize = 65_536;
 /// The most bytes of one read of an input that is read to its end.
 pub const CHUNK: usize = 65_536;
 
-/// The most bytes of the data of a frame whose value's text is gathered before it is written.
-pub const SHORT: usize = 64;
-
-/// The most bytes of a text that is gathered: more than most texts of such values have.
+/// The most bytes of a text that is gathered before it is written: more than most values have.
 pub const LINE: usize = 512;
 
 /// The most such reads. It only ends the loop: no input has so many bytes.

@@ -14,7 +14,7 @@ ghost use Rattle.std.specs.Fmt.{◌++?◌};
 
 use crate::checksum::Checksum;
 use crate::failure::Failure;
-use crate::limits::{CHUNK, LINE, LONGEST, READS, SHORT};
+use crate::limits::{CHUNK, LINE, LONGEST, READS};
 use crate::message::schema_of;
 use crate::place::{path_of, place_of};
 use crate::reason::reason;
@@ -395,7 +395,9 @@ fn print_answer<W: Write>(
 /// Returns the data of a frame of one group, which lies behind its code byte as it is, or `None` if
 /// the frame has several groups or none.
 fn only_group(frame: &[u8]) -> Option<&[u8]>
-    ensures { IfSome result (λ content. NoZero frame.now → Groups frame.now content.now) }
+    ensures one { IfSome result (λ content. NoZero frame.now → Groups frame.now content.now) }
+    ensures none { IfNone result ((content : List ℕ)
+        → frame.now ≡ length frame.now ∷ content → ⊥) }
 {
     let Some((code, content)) = frame.split_first() else {
         return None;
@@ -460,7 +462,7 @@ fn print_message<W: Write>(
 {
     match take_from_bytes(alloc, &format.schema, message) {
         Ok((value, behind)) => match rest_of(format.checksum, message, behind) {
-            Some(rest) => print_read(alloc, format, start, message, &value, rest, output),
+            Some(rest) => print_read(alloc, format, start, &value, rest, output),
             None => print_unchecked(format, start, message, output),
         },
         Err(error) => match error {
@@ -538,12 +540,11 @@ fn print_unread<W: Write>(
     }
 }
 
-/// Prints the line of the value of a frame with this data, and of the bytes of the data after it.
+/// Prints the line of the value of a frame, and of the bytes of its data after it.
 fn print_read<W: Write>(
     alloc: Global,
     format: &Format,
     start: u64,
-    message: &[u8],
     value: &Value,
     rest: &[u8],
     output: &mut W,
@@ -553,9 +554,6 @@ fn print_read<W: Write>(
     ensures refused { IfErr result (LinesFail format.now) }
 {
     match format.notation {
-        Notation::Text if message.len() <= SHORT => {
-            print_short(&format.schema, value, rest, output)
-        }
         Notation::Text => print_value(&format.schema, value, rest, output),
         Notation::Json => {
             json_stream::print_value(alloc, &format.schema, start, value, rest, output)
@@ -565,24 +563,6 @@ fn print_read<W: Write>(
 
 /// Prints a value, and the bytes of the frame's data after it, on a line.
 pub fn print_value<W: Write>(
-    schema: &Schema,
-    value: &Value,
-    rest: &[u8],
-    output: &mut W,
-) -> Result<(), Failure>
-    ensures printed { OnOk result (Prints (text (layout_of schema.now) (tree value.now)
-        ++? Some (more_text rest.now ++ 10 ∷ [])) (W.contents output.old) (W.contents output.new)) }
-    ensures only_output { IfErr result (λ e. e ≡ Failure.Output) }
-{
-    let shown = Shown { schema, value };
-    write!(output, "{shown}")?;
-    print_rest(rest, output)?;
-    writeln!(output)?;
-    Ok(())
-}
-
-/// Prints what [`print_value`] prints, of a value whose text is likely to be short.
-fn print_short<W: Write>(
     schema: &Schema,
     value: &Value,
     rest: &[u8],

@@ -105,6 +105,7 @@ pub fn bits_of(integer: Integer, z: i128) -> Option<u128>
 pub fn signed_of(integer: Integer, bits: u128) -> Option<i128>
     ensures number { IfSome result (λ z. (bits < 256 ^ size_of integer)
         × (z ≡ number_of (size_of integer) bits)) }
+    ensures none { IfNone result (bits < 256 ^ size_of integer → ⊥) }
 {
     if !are_bits(integer, bits) {
         return None;

@@ -17,8 +17,7 @@ pub enum TypeName {
 }
 
 impl TypeName {
-    /// Returns what the word stands for, or `None` if it names no type. `usize` names the same type
-    /// as `u64`, `isize` the same as `i64`, and `String` as `str`.
+    /// Returns what the word stands for, or `None` if it names no type.
     pub fn from_word(word: &[u8]) -> Option<TypeName>
         ensures found { IfSome result (λ name. IsTypeName word.now name) }
         ensures none { IfNone result ((name : TypeName) → IsTypeName word.now name → ⊥) }

@@ -22,7 +22,7 @@ impl<'de> Model for Bytes<'de> {
 }
 
 impl<'de> Bytes<'de> {
-    /// Returns a reader of the bytes of this slice.
+    /// Returns the bytes of this slice, of which none is taken yet.
     pub fn new(bytes: &'de [u8]) -> Bytes<'de>
         ensures { result.items ≡ bytes.now }
     {
