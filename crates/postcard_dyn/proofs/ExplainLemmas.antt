@@ -66,56 +66,56 @@ list_spelled R n line more low num (ts, (size, each), s) =
 
 mutual
   -- Lines that explain a value of a type have bytes that spell one.
-  pub spelled : (depth : ℕ) (label : Label) (s : Schema) (lines : List Line) → Explains depth label s lines → FrontSpells (type_of s) (bytes_of lines)
-  spelled depth label s lines (rule.of_leaf d b x line l v is at kind r) =
+  pub spelled : (most depth : ℕ) (label : Label) (s : Schema) (lines : List Line) → Explains most depth label s lines → FrontSpells (type_of s) (bytes_of lines)
+  spelled most depth label s lines (rule.of_leaf d b x line l v is at kind r) =
       (r.tree, r.is_read, subst (λ p. Spells r.tree p) (trail _ _ r.joins) r.is_spelled)
-  spelled depth label s lines (rule.of_absent d b x line content is at kind e) =
+  spelled most depth label s lines (rule.of_absent d b x line content is at kind e) =
       let step : type_of (schemas.Option content) ≡ option (type_of content.value) = search (rules, the_lemmas) in
       rw (is, step, e) (Absent, inl refl, refl)
-  spelled depth label s lines (rule.of_present d b x line content more is at kind e h) =
+  spelled most depth label s lines (rule.of_present d b x line content more is at kind e h) =
       let step : type_of (schemas.Option content) ≡ option (type_of content.value) = search (rules, the_lemmas) in
-      let k = spelled _ _ _ more h in
+      let k = spelled most _ _ _ more h in
       rw (is, step, e) (Present k.0, inr (k.0, refl, k.1), (1 ∷ [], bytes_of more, refl, k.2, refl))
-  spelled depth label s lines (rule.of_list d b x line element n more (inl is) at kind low num h) =
+  spelled most depth label s lines (rule.of_list d b x line element n more (inl is) at kind low num h) =
       let step : type_of (schemas.Seq element) ≡ seq (type_of element.value) = search (rules, the_lemmas) in
-      rw (is, step) (list_spelled _ n line more low num (each_spelled _ _ _ more h))
-  spelled depth label s lines (rule.of_list d b x line element n more (inr is) at kind low num h) =
+      rw (is, step) (list_spelled _ n line more low num (each_spelled most _ _ _ more h))
+  spelled most depth label s lines (rule.of_list d b x line element n more (inr is) at kind low num h) =
       let step : type_of (schemas.Map element) ≡ seq (type_of element.value) = search (rules, the_lemmas) in
-      rw (is, step) (list_spelled _ n line more low num (each_spelled _ _ _ more h))
-  spelled depth label s lines (rule.of_array d b x element n inner head more is o h) =
+      rw (is, step) (list_spelled _ n line more low num (each_spelled most _ _ _ more h))
+  spelled most depth label s lines (rule.of_array d b x element n inner head more is o h) =
       let step : type_of (schemas.Array element n) ≡ array n (type_of element.value) = search (rules, the_lemmas) in
-      let k = each_spelled _ _ _ more h in
+      let k = each_spelled most _ _ _ more h in
       rw (is, step, bytes_join head more, opens_nothing _ _ _ head o) (Group k.0, (k.0, refl, k.1.0, k.1.1), k.2)
-  spelled depth label s lines (rule.of_group d b x parts inner head more is o h) =
+  spelled most depth label s lines (rule.of_group d b x parts inner head more is o h) =
       let step : type_of (schemas.Group parts) ≡ group (types_of parts.items) = search (rules, the_lemmas) in
-      let k = parts_spelled _ _ more h in
+      let k = parts_spelled most _ _ more h in
       rw (is, step, bytes_join head more, opens_nothing _ _ _ head o) (Group k.0, (k.0, refl, k.1), k.2)
-  spelled depth label s lines (rule.of_variant d b x line variants i own name more is at low found called kind few num h) =
+  spelled most depth label s lines (rule.of_variant d b x line variants i own name more is at low found called kind few num h) =
       let step : type_of (schemas.Enum variants) ≡ choice (types_of variants.items) = search (rules, the_lemmas) in
       let here : reads_at (types_of variants.items) i ≡ reads (type_of own) = type_at variants.items i own low found in
-      let k = spelled _ _ _ more h in
+      let k = spelled most _ _ _ more h in
       rw (is, step) (Variant i k.0, (i, k.0, refl, few, subst (λ P. P k.0) (sym here) k.1), (line.bytes.now, bytes_of more, num, k.2, refl))
-  spelled depth label s lines (rule.of_field d b own x name content more is called h) =
+  spelled most depth label s lines (rule.of_field d b own x name content more is called h) =
       let step : type_of (schemas.Named name content) ≡ type_of content.value = search (rules, the_lemmas) in
-      rw (is, step) (spelled _ _ _ more h)
+      rw (is, step) (spelled most _ _ _ more h)
 
-  each_spelled : (depth : ℕ) (s : Schema) (n : ℕ) (lines : List Line) → ExplainsElements depth s n lines → SpellsEach (type_of s) n (bytes_of lines)
-  each_spelled depth s n lines (rule.no_elements d x) = (NoTrees, (refl, tt), refl)
-  each_spelled depth s n lines (rule.one_element d x k before more h j) =
-      let a = each_spelled _ _ k before h in
-      let b = spelled _ _ _ more j in
+  each_spelled : (most depth : ℕ) (s : Schema) (n : ℕ) (lines : List Line) → ExplainsElements most depth s n lines → SpellsEach (type_of s) n (bytes_of lines)
+  each_spelled most depth s n lines (rule.no_elements d x) = (NoTrees, (refl, tt), refl)
+  each_spelled most depth s n lines (rule.one_element d x k before more low h j) =
+      let a = each_spelled most _ _ k before h in
+      let b = spelled most _ _ _ more j in
       rw (bytes_join before more)
       (join a.0 (Then b.0 NoTrees), (omega (arith, count_join a.0 (Then b.0 NoTrees), a.1.0), each_join _ a.0 _ a.1.1 (b.1, tt)), all_join a.0 _ _ _ a.2 (alone b.0 _ b.2))
-  each_spelled depth s n lines (rule.more_elements d x k m before line h at kind b) =
-      let a = each_spelled _ _ k before h in
+  each_spelled most depth s n lines (rule.more_elements d x k m before line end some h at kind b) =
+      let a = each_spelled most _ _ k before h in
       rw (bytes_join before (line ∷ []), append-nil line.bytes.now)
       (join a.0 b.0, (omega (arith, count_join a.0 b.0, a.1.0, b.1.0), each_join _ a.0 _ a.1.1 b.1.1), all_join a.0 b.0 _ _ a.2 b.2)
 
-  parts_spelled : (depth : ℕ) (ss : List Schema) (lines : List Line) → ExplainsParts depth ss lines → (ts : Trees) × reads_all (types_of ss) ts × SpellsAll ts (bytes_of lines)
-  parts_spelled depth ss lines (rule.no_parts d) = (NoTrees, refl, refl)
-  parts_spelled depth ss lines (rule.one_part d us s before more h j) =
-      let a = parts_spelled _ us before h in
-      let b = spelled _ _ _ more j in
+  parts_spelled : (most depth : ℕ) (ss : List Schema) (lines : List Line) → ExplainsParts most depth ss lines → (ts : Trees) × reads_all (types_of ss) ts × SpellsAll ts (bytes_of lines)
+  parts_spelled most depth ss lines (rule.no_parts d) = (NoTrees, refl, refl)
+  parts_spelled most depth ss lines (rule.one_part d us s before more h j) =
+      let a = parts_spelled most _ us before h in
+      let b = spelled most _ _ _ more j in
       rw (bytes_join before more)
       (join a.0 (Then b.0 NoTrees), reads_join us (s ∷ []) a.0 (Then b.0 NoTrees) a.1 (b.0, NoTrees, refl, b.1, refl), all_join a.0 _ _ _ a.2 (alone b.0 _ b.2))
 
@@ -189,18 +189,18 @@ length_take (suc i) (x ∷ xs) low = ap suc (length_take i xs (omega (arith, low
 -- ---- all lines
 
 -- The lines of a value at the front, and then those of what is left, explain the bytes.
-pub all_explained : (s : Schema) (bytes rest : List ℕ) (old mid lines last : List Line) → old ≡ [] → Adds (Explains 0 Whole s) old bytes mid rest → IsLast last
-    → lines ≡ mid ++ last → bytes_of last ≡ rest → IsExplained s bytes lines
-all_explained s bytes rest old mid lines last none (front, h, is, e) end all shown = record {
+pub all_explained : (most : ℕ) (s : Schema) (bytes rest : List ℕ) (old mid lines last : List Line) → old ≡ [] → Adds (Explains most 0 Whole s) old bytes mid rest → IsLast last
+    → lines ≡ mid ++ last → bytes_of last ≡ rest → IsExplained most s bytes lines
+all_explained most s bytes rest old mid lines last none (front, h, is, e) end all shown = record {
   front = front;
   rest = last;
   are = all ∙ ap (λ l. l ++ last) (is ∙ ap (λ l. l ++ front) none);
   explained = h;
-  read = spelled 0 Whole s front h;
+  read = spelled most 0 Whole s front h;
   joins = e ∙ ap (λ r. bytes_of front ++ r) (sym shown);
   last = end;
 }
 
 -- The bytes of lines that explain bytes are these bytes.
-pub all_bytes : (s : Schema) (bytes : List ℕ) (lines : List Line) → IsExplained s bytes lines → bytes_of lines ≡ bytes
-all_bytes s bytes lines h = ap bytes_of h.are ∙ bytes_join h.front h.rest ∙ sym h.joins
+pub all_bytes : (most : ℕ) (s : Schema) (bytes : List ℕ) (lines : List Line) → IsExplained most s bytes lines → bytes_of lines ≡ bytes
+all_bytes most s bytes lines h = ap bytes_of h.are ∙ bytes_join h.front h.rest ∙ sym h.joins

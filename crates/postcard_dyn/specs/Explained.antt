@@ -75,47 +75,49 @@ Opens depth label inner lines =
     ⊎ ((line : Line) × IsAt depth label line × (line.kind ≡ Parts) × (line.bytes.now ≡ []) × (inner ≡ deeper depth) × (lines ≡ line ∷ []))
 
 mutual
-  -- The lines explain a value of the schema at this depth and with this label.
-  pub data Explains : ℕ → Label → Schema → List Line → Type 0 where
+  -- The lines explain a value of the schema at this depth and with this label, where of one list at most `most` elements have lines
+  -- of their own.
+  pub data Explains (most : ℕ) : ℕ → Label → Schema → List Line → Type 0 where
     -- A value without parts.
     of_leaf : (depth : ℕ) (label : Label) (s : Schema) (line : Line) (l : Leaf) (v : AValue) → s ≡ schemas.Leaf l → IsAt depth label line
-        → IsValue line.kind s v → ReadsFront (reads (type_of s)) IsTree line.bytes.now v [] → Explains depth label s (line ∷ [])
+        → IsValue line.kind s v → ReadsFront (reads (type_of s)) IsTree line.bytes.now v [] → Explains most depth label s (line ∷ [])
     -- An option without a value, and one with a value.
     of_absent : (depth : ℕ) (label : Label) (s : Schema) (line : Line) (content : Box Schema Global) → s ≡ schemas.Option content → IsAt depth label line
-        → line.kind ≡ Absent → line.bytes.now ≡ 0 ∷ [] → Explains depth label s (line ∷ [])
+        → line.kind ≡ Absent → line.bytes.now ≡ 0 ∷ [] → Explains most depth label s (line ∷ [])
     of_present : (depth : ℕ) (label : Label) (s : Schema) (line : Line) (content : Box Schema Global) (more : List Line) → s ≡ schemas.Option content
-        → IsAt depth label line → line.kind ≡ Present → line.bytes.now ≡ 1 ∷ [] → Explains (deeper depth) Whole content.value more
-        → Explains depth label s (line ∷ more)
+        → IsAt depth label line → line.kind ≡ Present → line.bytes.now ≡ 1 ∷ [] → Explains most (deeper depth) Whole content.value more
+        → Explains most depth label s (line ∷ more)
     -- A list or a map, and an array.
     of_list : (depth : ℕ) (label : Label) (s : Schema) (line : Line) (element : Box Schema Global) (n : ℕ) (more : List Line)
         → (s ≡ schemas.Seq element) ⊎ (s ≡ schemas.Map element) → IsAt depth label line → line.kind ≡ Count n → n < 2 ^ 64 → SpellsNum 64 n line.bytes.now
-        → ExplainsElements (deeper depth) element.value n more → Explains depth label s (line ∷ more)
+        → ExplainsElements most (deeper depth) element.value n more → Explains most depth label s (line ∷ more)
     of_array : (depth : ℕ) (label : Label) (s : Schema) (element : Box Schema Global) (n inner : ℕ) (head more : List Line) → s ≡ schemas.Array element n
-        → Opens depth label inner head → ExplainsElements inner element.value n more → Explains depth label s (head ++ more)
+        → Opens depth label inner head → ExplainsElements most inner element.value n more → Explains most depth label s (head ++ more)
     -- A tuple or a struct.
     of_group : (depth : ℕ) (label : Label) (s : Schema) (parts : Vec Schema Global) (inner : ℕ) (head more : List Line) → s ≡ schemas.Group parts
-        → Opens depth label inner head → ExplainsParts inner parts.items more → Explains depth label s (head ++ more)
+        → Opens depth label inner head → ExplainsParts most inner parts.items more → Explains most depth label s (head ++ more)
     -- A variant of an enum.
     of_variant : (depth : ℕ) (label : Label) (s : Schema) (line : Line) (variants : Vec Schema Global) (i : ℕ) (x : Schema) (name : List ℕ) (more : List Line)
         → s ≡ schemas.Enum variants → IsAt depth label line → i < length variants.items → x ≡ get_or variants.items i x → IsNameOf x name
-        → IsIndex line.kind i name → i < 2 ^ 32 → SpellsNum 32 i line.bytes.now → Explains (deeper depth) Whole x more → Explains depth label s (line ∷ more)
+        → IsIndex line.kind i name → i < 2 ^ 32 → SpellsNum 32 i line.bytes.now → Explains most (deeper depth) Whole x more → Explains most depth label s (line ∷ more)
     -- A field, which is called by its name, and what a variant holds.
     of_field : (depth : ℕ) (label own : Label) (s : Schema) (name : String Global) (content : Box Schema Global) (lines : List Line) → s ≡ schemas.Named name content
-        → IsOwn label (string_bytes name) own → Explains depth own content.value lines → Explains depth label s lines
+        → IsOwn label (string_bytes name) own → Explains most depth own content.value lines → Explains most depth label s lines
 
-  -- The lines explain n elements, each with its number: each by lines of its own, or several by one line.
-  pub data ExplainsElements : ℕ → Schema → ℕ → List Line → Type 0 where
-    no_elements : (depth : ℕ) (s : Schema) → ExplainsElements depth s 0 []
-    one_element : (depth : ℕ) (s : Schema) (n : ℕ) (lines more : List Line) → ExplainsElements depth s n lines → Explains depth (Element n) s more
-        → ExplainsElements depth s (n + 1) (lines ++ more)
-    more_elements : (depth : ℕ) (s : Schema) (n k : ℕ) (lines : List Line) (line : Line) → ExplainsElements depth s n lines → IsAt depth (Element n) line
-        → line.kind ≡ MoreElements k → SpellsEach (type_of s) k line.bytes.now → ExplainsElements depth s (n + k) (lines ++ line ∷ [])
+  -- The lines explain n elements, each with its number: the first `most` by lines of their own, and those after them, if there are
+  -- some, by one line.
+  pub data ExplainsElements (most : ℕ) : ℕ → Schema → ℕ → List Line → Type 0 where
+    no_elements : (depth : ℕ) (s : Schema) → ExplainsElements most depth s 0 []
+    one_element : (depth : ℕ) (s : Schema) (n : ℕ) (lines more : List Line) → n < most → ExplainsElements most depth s n lines → Explains most depth (Element n) s more
+        → ExplainsElements most depth s (n + 1) (lines ++ more)
+    more_elements : (depth : ℕ) (s : Schema) (n k : ℕ) (lines : List Line) (line : Line) → n ≡ most → 0 < k → ExplainsElements most depth s n lines
+        → IsAt depth (Element n) line → line.kind ≡ MoreElements k → SpellsEach (type_of s) k line.bytes.now → ExplainsElements most depth s (n + k) (lines ++ line ∷ [])
 
   -- The lines explain a value of each schema, in order, each with its number.
-  pub data ExplainsParts : ℕ → List Schema → List Line → Type 0 where
-    no_parts : (depth : ℕ) → ExplainsParts depth [] []
-    one_part : (depth : ℕ) (ss : List Schema) (s : Schema) (lines more : List Line) → ExplainsParts depth ss lines → Explains depth (Part (length ss)) s more
-        → ExplainsParts depth (ss ++ s ∷ []) (lines ++ more)
+  pub data ExplainsParts (most : ℕ) : ℕ → List Schema → List Line → Type 0 where
+    no_parts : (depth : ℕ) → ExplainsParts most depth [] []
+    one_part : (depth : ℕ) (ss : List Schema) (s : Schema) (lines more : List Line) → ExplainsParts most depth ss lines → Explains most depth (Part (length ss)) s more
+        → ExplainsParts most depth (ss ++ s ∷ []) (lines ++ more)
 
 -- The lines are one for n elements.
 abbrev pub ExplainsMore : ℕ → Label → Schema → ℕ → List Line → Type 0
@@ -139,12 +141,13 @@ Stops old bytes new e = IsReadError memory e × (e ≢ OutOfMemory → Adds (λ 
 abbrev pub Walks : (List Line → Type 0) → List Line → List ℕ → List Line → Result (Bor (List ℕ)) Error → Type 0
 Walks kind old bytes new result = MatchResult result (λ rest. Adds kind old bytes new rest.now) (Stops old bytes new)
 
--- The lines are those of a value of the schema at the front of the bytes, and, if there are bytes after it, one of these bytes.
-pub record IsExplained (schema : Schema) (bytes : List ℕ) (lines : List Line) : Type 0 where
+-- The lines are those of a value of the schema at the front of the bytes, where of one list at most `most` elements have lines of
+-- their own, and, if there are bytes after it, one of these bytes.
+pub record IsExplained (most : ℕ) (schema : Schema) (bytes : List ℕ) (lines : List Line) : Type 0 where
   pub front : List Line
   pub rest : List Line
   pub are : lines ≡ front ++ rest
-  pub explained : Explains 0 Whole schema front
+  pub explained : Explains most 0 Whole schema front
   pub read : FrontSpells (type_of schema) (bytes_of front)
   pub joins : bytes ≡ bytes_of front ++ bytes_of rest
   pub last : IsLast rest

@@ -103,8 +103,6 @@ struct Place<'a> {
 #[derive(Drop)]
 struct Walk<'a> {
     alloc: Global,
-    /// The most elements of one list that have lines of their own.
-    most: u64,
     lines: Vec<Line<'a>>,
 }
 
@@ -115,7 +113,8 @@ struct Walk<'a> {
 /// for each value without parts, count, index and byte of an option, and one without bytes for each
 /// tuple, struct or array in another value. The bytes after the value are the last line, if there
 /// are some. If a part can't be read, its line is the last, and has the rest of the bytes. Of a
-/// list, the elements after the first `most` are on one line.
+/// list, a map or an array, the elements after the first `most` are on one line, and all others
+/// have lines of their own.
 ///
 /// # Errors
 ///
@@ -130,22 +129,23 @@ pub fn explain<'a>(
 ) -> Result<Explanation<'a>>
     ensures every_byte { IfOk result (λ told. bytes_of told.lines.items ≡ bytes.now) }
     ensures read { IfOk result (λ told. told.refused ≡ None
-        → IsExplained schema.now bytes.now told.lines.items) }
+        → IsExplained most schema.now bytes.now told.lines.items) }
     ensures stopped { IfOk result (λ told. IfSome told.refused (λ error.
         HasNoFront schema.now bytes.now × IsReadError memory error × (error ≢ Error.OutOfMemory))) }
     ensures named_error { IfErr result
         (λ e. (e ≡ Error.OutOfMemory) ⊎ (e ≡ Error.WontImplement)) }
+    ensures disagrees { IfErr result
+        (λ e. e ≡ Error.WontImplement → HasNoFront schema.now bytes.now → ⊥) }
 {
     let mut walk = Walk {
         alloc,
-        most,
         lines: Vec::new(alloc),
     };
     let place = Place {
         depth: 0,
         label: Label::Whole,
     };
-    match explain_part(&mut walk, schema, place, bytes) {
+    match explain_part(&mut walk, most, schema, place, bytes) {
         Ok(rest) => {
             push_rest(&mut walk, rest)?;
             Ok(Explanation {
@@ -286,26 +286,33 @@ fn name_of(variant: &Schema) -> &str
 }
 
 /// Adds the lines of a value of the schema at the front of the bytes, and returns the bytes after
-/// it.
+/// it. Of a list in it, the elements after the first `most` are on one line.
 #[cycle(explain)]
 fn explain_part<'a>(
     walk: &mut Walk<'a>,
+    most: u64,
     schema: &'a Schema,
     place: Place<'a>,
     bytes: &'a [u8],
 ) -> Result<&'a [u8]>
-    ensures { Walks (Explains place.entry.depth place.entry.label schema.now)
+    ensures { Walks (Explains most place.entry.depth place.entry.label schema.now)
         walk.old.lines.items bytes.now walk.new.lines.items result }
 {
     match schema {
         Schema::Leaf(leaf) => explain_leaf(walk, schema, *leaf, place, bytes),
-        Schema::Option(content) => explain_option(walk, content, place, bytes),
-        Schema::Seq(element) => explain_list(walk, element, place, bytes),
-        Schema::Map(entry) => explain_list(walk, entry, place, bytes),
-        Schema::Array(element, count) => explain_array(walk, element, *count, place, bytes),
-        Schema::Group(parts) => explain_group(walk, parts, place, bytes),
-        Schema::Enum(variants) => explain_variant(walk, variants, place, bytes),
-        Schema::Named(name, content) => explain_part(walk, content, named(place, name), bytes),
+        Schema::Option(content) => explain_option(walk, most, content, place, bytes),
+        Schema::Seq(element) => explain_list(walk, most, element, place, bytes),
+        Schema::Map(entry) => explain_list(walk, most, entry, place, bytes),
+        Schema::Array(element, count) => explain_array(walk, most, element, *count, place, bytes),
+        Schema::Group(parts) => explain_group(walk, most, parts, place, bytes),
+        Schema::Enum(variants) => explain_variant(walk, most, variants, place, bytes),
+        Schema::Named(name, content) => explain_part(
+            walk,
+            most,
+            content,
+            named(place, name),
+            bytes,
+        ),
     }
 }
 
@@ -316,7 +323,8 @@ fn explain_leaf<'a>(
     place: Place<'a>,
     bytes: &'a [u8],
 ) -> Result<&'a [u8]>
-    ensures { schema.now ≡ AsLeaf leaf → Walks (Explains place.entry.depth place.entry.label schema.now)
+    ensures { (most : ℕ) → schema.now ≡ AsLeaf leaf
+        → Walks (Explains most place.entry.depth place.entry.label schema.now)
         walk.old.lines.items bytes.now walk.new.lines.items result }
 {
     match take_from_bytes(walk.alloc, schema, bytes) {
@@ -337,12 +345,13 @@ fn explain_leaf<'a>(
 #[cycle(explain)]
 fn explain_option<'a>(
     walk: &mut Walk<'a>,
+    most: u64,
     content: &'a Schema,
     place: Place<'a>,
     bytes: &'a [u8],
 ) -> Result<&'a [u8]>
     ensures { (s : Schema) (held : Box Schema Global) → s ≡ Option held → held.value ≡ content.now
-        → Walks (Explains place.entry.depth place.entry.label s)
+        → Walks (Explains most place.entry.depth place.entry.label s)
         walk.old.lines.items bytes.now walk.new.lines.items result }
 {
     let Some((first, rest)) = bytes.split_first() else {
@@ -356,7 +365,7 @@ fn explain_option<'a>(
         }
         1 => {
             push(walk, place, LineKind::Present, front_of(bytes, rest))?;
-            explain_part(walk, content, inside(place), rest)
+            explain_part(walk, most, content, inside(place), rest)
         }
         _ => {
             let error = Error::DeserializeBadOption;
@@ -369,19 +378,20 @@ fn explain_option<'a>(
 #[cycle(explain)]
 fn explain_list<'a>(
     walk: &mut Walk<'a>,
+    most: u64,
     element: &'a Schema,
     place: Place<'a>,
     bytes: &'a [u8],
 ) -> Result<&'a [u8]>
     ensures { (s : Schema) (held : Box Schema Global) → (s ≡ Seq held) ⊎ (s ≡ Map held)
         → held.value ≡ element.now
-        → Walks (Explains place.entry.depth place.entry.label s)
+        → Walks (Explains most place.entry.depth place.entry.label s)
         walk.old.lines.items bytes.now walk.new.lines.items result }
 {
     match postcard_de::take_from_bytes::<u64>(walk.alloc, bytes) {
         Ok((count, rest)) => {
             push(walk, place, LineKind::Count(count), front_of(bytes, rest))?;
-            explain_elements(walk, element, count, inside(place).depth, rest)
+            explain_elements(walk, most, element, count, inside(place).depth, rest)
         }
         Err(error) => refuse(walk, Expected::Count, place, bytes, error),
     }
@@ -390,6 +400,7 @@ fn explain_list<'a>(
 #[cycle(explain)]
 fn explain_array<'a>(
     walk: &mut Walk<'a>,
+    most: u64,
     element: &'a Schema,
     count: usize,
     place: Place<'a>,
@@ -397,55 +408,54 @@ fn explain_array<'a>(
 ) -> Result<&'a [u8]>
     ensures { (s : Schema) (held : Box Schema Global) → s ≡ Array held count
         → held.value ≡ element.now
-        → Walks (Explains place.entry.depth place.entry.label s)
+        → Walks (Explains most place.entry.depth place.entry.label s)
         walk.old.lines.items bytes.now walk.new.lines.items result }
 {
     let depth = open_parts(walk, place)?;
-    explain_elements(walk, element, count as u64, depth, bytes)
+    explain_elements(walk, most, element, count as u64, depth, bytes)
 }
 
 #[cycle(explain)]
 fn explain_elements<'a>(
     walk: &mut Walk<'a>,
+    most: u64,
     element: &'a Schema,
     count: u64,
     depth: usize,
     bytes: &'a [u8],
 ) -> Result<&'a [u8]>
-    ensures { Walks (ExplainsElements depth element.now count)
+    ensures { Walks (ExplainsElements most depth element.now count)
         walk.old.lines.items bytes.now walk.new.lines.items result }
 {
-    let shown = count.min(walk.most);
     let mut rest = bytes;
-    for i in 0..shown {
+    for i in 0..count.min(most) {
         let place = Place {
             depth,
             label: Label::Element(i),
         };
-        rest = explain_part(walk, element, place, rest)?;
+        rest = explain_part(walk, most, element, place, rest)?;
     }
-    if shown == count {
+    if count <= most {
         return Ok(rest);
     }
-    explain_more(walk, element, shown, count - shown, depth, rest)
+    explain_more(walk, most, element, count - most, depth, rest)
 }
 
-/// Adds one line for `count` elements in a row, of which the first has the number `first`. If one of
-/// them can't be read, the line is that of the elements before it, and the refused element has lines
-/// of its own.
+/// Adds one line for `count` elements in a row, those after the first `most`. If one of them can't be
+/// read, the line is that of the elements before it, and the refused element has lines of its own.
 #[cycle(explain)]
 fn explain_more<'a>(
     walk: &mut Walk<'a>,
+    most: u64,
     element: &'a Schema,
-    first: u64,
     count: u64,
     depth: usize,
     bytes: &'a [u8],
 ) -> Result<&'a [u8]>
-    ensures { Walks (ExplainsMore depth (Element first) element.now count)
+    ensures { Walks (ExplainsMore depth (Element most) element.now count)
         walk.old.lines.items bytes.now walk.new.lines.items result }
 {
-    let label = Label::Element(first);
+    let label = Label::Element(most);
     let mut rest = bytes;
     for i in 0..count {
         match take_from_bytes(walk.alloc, element, rest) {
@@ -460,9 +470,9 @@ fn explain_more<'a>(
                 )?;
                 let refused = Place {
                     depth,
-                    label: Label::Element(first.saturating_add(i)),
+                    label: Label::Element(most.saturating_add(i)),
                 };
-                let after = explain_part(walk, element, refused, rest)?;
+                let after = explain_part(walk, most, element, refused, rest)?;
                 return refuse(walk, Expected::Element, refused, after, error);
             }
         }
@@ -480,26 +490,28 @@ fn explain_more<'a>(
 #[cycle(explain)]
 fn explain_group<'a>(
     walk: &mut Walk<'a>,
+    most: u64,
     parts: &'a Vec<Schema>,
     place: Place<'a>,
     bytes: &'a [u8],
 ) -> Result<&'a [u8]>
     ensures { (s : Schema) → s ≡ Group parts.now
-        → Walks (Explains place.entry.depth place.entry.label s)
+        → Walks (Explains most place.entry.depth place.entry.label s)
         walk.old.lines.items bytes.now walk.new.lines.items result }
 {
     let depth = open_parts(walk, place)?;
-    explain_parts(walk, parts, depth, bytes)
+    explain_parts(walk, most, parts, depth, bytes)
 }
 
 #[cycle(explain)]
 fn explain_parts<'a>(
     walk: &mut Walk<'a>,
+    most: u64,
     parts: &'a Vec<Schema>,
     depth: usize,
     bytes: &'a [u8],
 ) -> Result<&'a [u8]>
-    ensures { Walks (ExplainsParts depth parts.now.items)
+    ensures { Walks (ExplainsParts most depth parts.now.items)
         walk.old.lines.items bytes.now walk.new.lines.items result }
 {
     let mut rest = bytes;
@@ -508,7 +520,7 @@ fn explain_parts<'a>(
             depth,
             label: Label::Part(i),
         };
-        rest = explain_part(walk, part, place, rest)?;
+        rest = explain_part(walk, most, part, place, rest)?;
     }
     Ok(rest)
 }
@@ -517,12 +529,13 @@ fn explain_parts<'a>(
 #[cycle(explain)]
 fn explain_variant<'a>(
     walk: &mut Walk<'a>,
+    most: u64,
     variants: &'a Vec<Schema>,
     place: Place<'a>,
     bytes: &'a [u8],
 ) -> Result<&'a [u8]>
     ensures { (s : Schema) → s ≡ Enum variants.now
-        → Walks (Explains place.entry.depth place.entry.label s)
+        → Walks (Explains most place.entry.depth place.entry.label s)
         walk.old.lines.items bytes.now walk.new.lines.items result }
 {
     let (index, rest) = match postcard_de::take_from_bytes::<u32>(walk.alloc, bytes) {
@@ -534,5 +547,5 @@ fn explain_variant<'a>(
     };
     let kind = LineKind::Variant(index, name_of(variant));
     push(walk, place, kind, front_of(bytes, rest))?;
-    explain_part(walk, variant, inside(place), rest)
+    explain_part(walk, most, variant, inside(place), rest)
 }

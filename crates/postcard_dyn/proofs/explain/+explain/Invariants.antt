@@ -5,11 +5,11 @@ use Rattle.postcard_dyn.specs.Explained.{Adds, ExplainsElements, ExplainsParts, 
 use Rattle.postcard_dyn.proofs.explain.+explain.Given as goal
 
 abbrev pub invariant-explain_elements-loop-i : goal.invariant-explain_elements-loop-i
-invariant-explain_elements-loop-i l = Adds (ExplainsElements l.depth l.element l.i) l.fn.walk.lines.items l.bytes l.walk.lines.items l.rest
+invariant-explain_elements-loop-i l = Adds (ExplainsElements l.most l.depth l.element l.i) l.fn.walk.lines.items l.bytes l.walk.lines.items l.rest
 
 abbrev pub invariant-explain_more-loop-i : goal.invariant-explain_more-loop-i
 invariant-explain_more-loop-i l =
     (done : List ℕ) × SpellsEach (type_of l.element) l.i done × (l.bytes ≡ done ++ l.rest) × (l.walk.lines.items ≡ l.fn.walk.lines.items)
 
 abbrev pub invariant-explain_parts-loop-i : goal.invariant-explain_parts-loop-i
-invariant-explain_parts-loop-i l = Adds (ExplainsParts l.depth (take l.i l.part-items)) l.fn.walk.lines.items l.bytes l.walk.lines.items l.rest
+invariant-explain_parts-loop-i l = Adds (ExplainsParts l.most l.depth (take l.i l.part-items)) l.fn.walk.lines.items l.bytes l.walk.lines.items l.rest

@@ -4,7 +4,7 @@ use Rattle.postcard_dyn.proofs.ExplainLemmas.{pushed}
 use Rattle.postcard_dyn.proofs.explain.explain_leaf.Goals as goal
 
 pub returns-in_ok-push-in-Ok : goal.returns-in_ok-push-in-Ok
-returns-in_ok-push-in-Ok c = λ is.
+returns-in_ok-push-in-Ok c = λ most is.
     let r = c.in-Ok.ensures.gives in
     let p = c.in_ok-push-in-Ok.ensures.added in
     let shown = p.4 ∙ c.front_of.ensures r.front r.joins in
