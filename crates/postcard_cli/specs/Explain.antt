@@ -13,6 +13,7 @@ use Rattle.postcard_dyn_schema.specs.LeafNames.{leaf_name}
 use Rattle.postcard_dyn_schema.specs.declared.schema.Leaf.TheVariants as leaves
 use Rattle.postcard_dyn_schema.specs.declared.schema.Schema.{Schema}
 use Rattle.postcard_dyn_schema.specs.Grammar.{IsExpression}
+use Rattle.postcard_dyn.specs.Refused.{IsRefusedAt}
 use Rattle.postcard_dyn.specs.Tree.{tree}
 use Rattle.postcard_dyn.specs.Explained.{IsExplained, HasNoFront, bytes_of}
 use Rattle.postcard_dyn.specs.declared.explain.Expected.{Expected}
@@ -135,6 +136,7 @@ pub record IsExplainRefused (expression hex : List ℕ) (all : Bool) (known left
   pub named : IsReadError memory error
   pub not_memory : error ≢ OutOfMemory
   pub offset : ℕ
+  pub at : IsRefusedAt schema bytes offset
   pub within : offset ≤ length bytes
   pub place : List ℕ
   pub is_place : IsPlaceOf schema bytes place

@@ -20,6 +20,7 @@ use Rattle.postcard_dyn_schema.specs.Grammar.{IsExpression}
 use Rattle.postcard_dyn_schema.specs.Meaning.{type_of, has_bytes, reads}
 use Rattle.postcard_dyn_schema.specs.Printed.{expression_error_text}
 use Rattle.postcard_dyn_schema.specs.Text.{characters}
+use Rattle.postcard_dyn.specs.Refused.{IsRefusedAt}
 use Rattle.postcard_dyn.specs.Tree.{tree}
 use Rattle.postcard_dyn.specs.declared.value.Value.{Value}
 use Rattle.postcard_dyn_json.specs.Printed.{IsPlaceIn as IsJsonPlace, colon_after, expected_text as json_expected_text}
@@ -157,12 +158,13 @@ EncodeFails expression word old new failure = ⊥
 
 -- No front of `rest`, which are the last of the bytes `all`, spells a value of the schema; which part can't be read, its place in
 -- `all`, and why are `shown`.
-pub record IsRefusedAt (schema : Schema) (all rest shown : List ℕ) : Type 0 where
+pub record IsRefusalText (schema : Schema) (all rest shown : List ℕ) : Type 0 where
   pub no_value : (v : Value) (more : List ℕ) → ReadsValue schema rest v more → ⊥
   pub error : Error
   pub named : IsReadError memory error
   pub not_memory : error ≢ OutOfMemory
   pub offset : ℕ
+  pub at : IsRefusedAt schema rest offset
   pub within : offset ≤ length rest
   pub place : List ℕ
   pub is_place : IsPlaceOf schema rest place
@@ -170,7 +172,7 @@ pub record IsRefusedAt (schema : Schema) (all rest shown : List ℕ) : Type 0 wh
 
 -- The failures of reading and printing the value at the front of `rest`.
 abbrev pub FrontFails : Schema → List ℕ → List ℕ → Option (List ℕ) → Option (List ℕ) → Failure → Type 0
-FrontFails schema all rest old new Refused = (shown : List ℕ) × IsRefusedAt schema all rest shown × Appends old new shown
+FrontFails schema all rest old new Refused = (shown : List ℕ) × IsRefusalText schema all rest shown × Appends old new shown
 FrontFails schema all rest old new (Library e) = e ≡ OutOfMemory
 FrontFails schema all rest old new Output = ⊤
 FrontFails schema all rest old new failure = ⊥
@@ -182,7 +184,7 @@ pub record StopsPrinting (schema : Schema) (bytes : List ℕ) (old new : Option 
   pub rest : List ℕ
   pub are : ReadsValues schema bytes values rest
   pub shown : List ℕ
-  pub refused : IsRefusedAt schema bytes rest shown
+  pub refused : IsRefusalText schema bytes rest shown
   pub printed : Prints (lines_of schema values ++? Some shown) old new
 
 -- The failures of reading and printing all values of the bytes.
@@ -339,6 +341,7 @@ pub record IsFrontRefused (schema : Schema) (all rest : List ℕ) (old new : Opt
   pub named : IsReadError memory error
   pub not_memory : error ≢ OutOfMemory
   pub offset : ℕ
+  pub at : IsRefusedAt schema rest offset
   pub within : offset ≤ length rest
   pub path : List ℕ
   pub is_path : IsPathOf schema rest path

@@ -22,6 +22,7 @@ returns-clause-refused g c =
       named = none.1;
       not_memory = none.2;
       offset = c.in_ok-offset-in-Some.offset;
+      at = (rw c.deref-in-Some.ensures.value at c.in_ok-offset-in-Some.ensures.at) (rw c.deref.ensures.value at none.0);
       within = rw c.deref-in-Some.ensures.value at c.in_ok-offset-in-Some.ensures.within;
       place = string_bytes c.in_ok-place-in-Some.place;
       is_place = (rw c.deref-in-Some-2.ensures.value at c.in_ok-place-in-Some.ensures.named) (rw c.deref.ensures.value at none.0);
