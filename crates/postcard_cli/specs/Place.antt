@@ -4,13 +4,12 @@ use Rattle.std.specs.Fmt.{decimal}
 use Rattle.std.specs.declared.alloc.Global.{Global}
 use Rattle.std.specs.declared.string.String.{String}
 use Rattle.postcard_wire.specs.Number.{SpellsNum}
-use Rattle.postcard_wire.specs.Tree.{Trees}
-use Rattle.postcard_wire.specs.Spelling.{SpellsAll}
 use Rattle.postcard_dyn_schema.specs.declared.schema.Leaf.{Leaf}
 use Rattle.postcard_dyn_schema.specs.declared.schema.Schema.{Schema}
 use Rattle.postcard_dyn_schema.specs.declared.schema.Schema.TheVariants as schemas
-use Rattle.postcard_dyn_schema.specs.Meaning.{MessageType, type_of, types_of, reads_all}
+use Rattle.postcard_dyn_schema.specs.Meaning.{type_of}
 use Rattle.postcard_dyn.specs.Explained.{HasNoFront, SpellsEach}
+use Rattle.postcard_dyn.specs.Refused.{HasNoCount, HasNoIndex, SpellsParts}
 
 -- The path before the name of a part: with a `.` at its end, unless it is empty.
 abbrev pub dotted : List ℕ → List ℕ
@@ -28,22 +27,6 @@ HasName s = (n : String Global) × (b : Box Schema Global) × (s ≡ schemas.Nam
 -- The path of the part with this number of a tuple or a struct, before its own name, if it has one.
 abbrev pub IsPartPath : List ℕ → ℕ → Schema → List ℕ → Type 0
 IsPartPath path i s own = (HasName s × (own ≡ path)) ⊎ ((HasName s → ⊥) × (own ≡ dotted path ++ decimal i))
-
--- No front of the bytes spells a count.
-abbrev pub HasNoCount : List ℕ → Type 0
-HasNoCount bytes = (n : ℕ) (front rest : List ℕ) → n < 2 ^ 64 → SpellsNum 64 n front → bytes ≡ front ++ rest → ⊥
-
--- No front of the bytes spells the index of one of `count` variants.
-abbrev pub HasNoIndex : ℕ → List ℕ → Type 0
-HasNoIndex count bytes = (i : ℕ) (front rest : List ℕ) → i < count → i < 2 ^ 32 → SpellsNum 32 i front → bytes ≡ front ++ rest → ⊥
-
--- No front of the bytes spells n values of the type, one after another.
-abbrev pub HasNoRow : MessageType → ℕ → List ℕ → Type 0
-HasNoRow t n bytes = (front rest : List ℕ) → bytes ≡ front ++ rest → SpellsEach t n front → ⊥
-
--- The bytes spell a value of each schema, in order.
-abbrev pub SpellsParts : List Schema → List ℕ → Type 0
-SpellsParts ss bytes = (ts : Trees) × reads_all (types_of ss) ts × SpellsAll ts bytes
 
 -- Reading a value of the schema, whose path is `path`, from a front of the bytes stops at the part with the path `stop`: all before it is
 -- read, and it can't be.

@@ -1,3 +1,4 @@
 pub mod Parts
 pub mod Bytes
 pub mod ExplainLemmas
+pub mod PlaceLemmas

@@ -4,6 +4,8 @@ pub mod Tree
 pub mod TypeLaws
 pub mod Shape
 pub mod Explained
+pub mod Refused
+pub mod RefusedLemmas
 -- The words that clauses of this crate cite, under one path.
 pub use Rattle.std.specs.Prelude.{map}
 pub use Rattle.std.specs.declared.alloc.Global.{Global}
@@ -30,6 +32,7 @@ pub use Rattle.postcard_dyn.specs.Explained.{Explains, ExplainsElements, Explain
 pub use Rattle.postcard_dyn.specs.Explained.{ExplainsParts, HasNoFront, IsAt, IsExplained, IsLast}
 pub use Rattle.postcard_dyn.specs.Explained.{IsNameOf, IsOwn, Opens, Walks, bytes_of, deeper}
 pub use Rattle.postcard_dyn.specs.Fixed.{IsBitsOf, signed_of as number_of, order_of}
+pub use Rattle.postcard_dyn.specs.Refused.{HasNoRow, IsRefusedAt, RefusedInRow}
 pub use Rattle.postcard_dyn.specs.Tree.{AreTrees, IsTree, tree}
 pub use Rattle.postcard_dyn.specs.declared.explain.Label.TheVariants.{Element, Whole}
 pub use Rattle.postcard_dyn.specs.declared.explain.Line.{Line}

@@ -3,9 +3,10 @@ use Rattle.std.proofs.lemmas.Grind.{common_steps}
 use Rattle.std.proofs.lemmas.Result.{on_ok_weaker}
 use Rattle.postcard_wire.specs.Tree.{Num, NoTrees}
 use Rattle.postcard_dyn_schema.specs.Meaning.{type_of}
+use Rattle.postcard_dyn.specs.RefusedLemmas.{all_parts, part_more}
 use Rattle.postcard_dyn.proofs.ExplainLemmas.{each_more, number_read}
 use Rattle.postcard_cli.specs.Place.{at_leaf, at_option, at_count, at_index, in_group}
-use Rattle.postcard_cli.proofs.PlaceLemmas.{all_parts, array_stops, field_stops, list_stops, option_stops, part_more, variant_stops}
+use Rattle.postcard_cli.proofs.PlaceLemmas.{array_stops, field_stops, list_stops, option_stops, variant_stops}
 use Rattle.postcard_cli.proofs.place.+place.Goals as goal
 
 pub push_path-returns-in-Leaf-clause-stops : goal.push_path-returns-in-Leaf-clause-stops

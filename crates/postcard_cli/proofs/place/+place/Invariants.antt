@@ -2,7 +2,7 @@
 use Rattle.std.proofs.Common.{◌≡◌, ◌++◌, List, ℕ, take}
 use Rattle.postcard_dyn_schema.specs.Meaning.{type_of}
 use Rattle.postcard_dyn.specs.Explained.{SpellsEach}
-use Rattle.postcard_cli.specs.Place.{SpellsParts}
+use Rattle.postcard_dyn.specs.Refused.{SpellsParts}
 use Rattle.postcard_cli.proofs.place.+place.Given as goal
 
 abbrev pub invariant-push_in_elements-loop-i : goal.invariant-push_in_elements-loop-i
