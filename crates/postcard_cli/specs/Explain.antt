@@ -106,14 +106,19 @@ PrintsRows layout at [] old new = Appends old new []
 PrintsRows layout at (line ∷ lines) old new =
     (mid : Option (List ℕ)) × PrintsRow layout at line old mid × PrintsRows layout (at + length line.bytes.now) lines mid new
 
--- The bytes of HEX begin with a value of the expression, and the rows of lines that explain them are printed.
+-- The most elements of one list that have rows of their own: 16, or, if nothing is cut, as many as a list may have.
+abbrev pub most_elements : Bool → ℕ
+most_elements all = if all then 2 ^ 64 - 1 else 16
+
+-- The bytes of HEX begin with a value of the expression, and the rows of lines that explain them are printed. Of a list, the
+-- elements after the first 16 have one row together, unless nothing is cut.
 pub record PrintsExplained (expression hex : List ℕ) (all : Bool) (known left old new : Option (List ℕ)) : Type 0 where
   pub schema : Schema
   pub spelled : IsExpression schema expression
   pub bytes : List ℕ
   pub stands : StandsFor hex known left bytes
   pub lines : List Line
-  pub explained : IsExplained schema bytes lines
+  pub explained : IsExplained (most_elements all) schema bytes lines
   pub layout : Layout
   pub uncut : layout.all ≡ all
   pub printed : PrintsRows layout 0 lines old new

@@ -98,14 +98,15 @@ PrintsJsonRows error at before (line ∷ lines) old new =
     (mid : Option (List ℕ)) × PrintsJsonRow error at (path_after before line) line old mid
     × PrintsJsonRows error (at + length line.bytes.now) (line ∷ before) lines mid new
 
--- The bytes of HEX begin with a value of the expression, and the rows of lines that explain them are printed.
+-- The bytes of HEX begin with a value of the expression, and the rows of lines that explain them are printed. Each element of a list
+-- has rows of its own: none has 2 ^ 64 elements.
 pub record PrintsExplainedJson (expression hex : List ℕ) (known left old new : Option (List ℕ)) : Type 0 where
   pub schema : Schema
   pub spelled : IsExpression schema expression
   pub bytes : List ℕ
   pub stands : StandsFor hex known left bytes
   pub lines : List Line
-  pub explained : IsExplained schema bytes lines
+  pub explained : IsExplained (2 ^ 64 - 1) schema bytes lines
   pub printed : PrintsJsonRows None 0 [] lines old new
 
 -- The bytes of HEX begin with no value of the expression. The rows of lines that have all of them, in order, are printed, with an
