@@ -8,5 +8,5 @@ use Rattle.postcard_cli.proofs.stream.print_value.Goals as goal
 
 pub returns-clause-printed : goal.returns-clause-printed
 returns-clause-printed g c =
-    prints_both (text (layout_of c.args.schema.now) (tree c.args.value.now)) (Some (more_text c.args.rest.now ++ 10 ∷ [])) _ _ _ c.in_ok-write.ensures.bytes
-    (Appends-trans _ _ _ _ _ c.in_ok-print_rest.ensures.printed c.in_ok-writeln.ensures.bytes)
+    prints_both (text (layout_of c.args.schema.now) (tree c.args.value.now)) (Some (more_text c.args.rest.now ++ 10 ∷ [])) _ _ _ c.in_ok-print_gathered.ensures.printed
+    (Appends-trans _ _ _ _ _ c.in_ok-print_rest.ensures.printed c.in_ok-write_all.ensures.bytes)
