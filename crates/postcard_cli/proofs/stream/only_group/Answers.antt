@@ -3,8 +3,8 @@ use Rattle.std.proofs.lemmas.Grind.{common_steps}
 use Rattle.postcard_cli.proofs.StreamLemmas.{one_group}
 use Rattle.postcard_cli.proofs.stream.only_group.Goals as goal
 
-pub returns : goal.returns
-returns c free =
+pub returns-clause-one : goal.returns-clause-one
+returns-clause-one c free =
     let code = c.in-Some.code.now in
     let whole : code ≡ length c.args.frame.now = grind (arith, common_steps) in
     let small : code < 256 = grind (arith, common_steps) in
