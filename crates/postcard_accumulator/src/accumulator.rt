@@ -195,8 +195,8 @@ impl<const N: usize> CobsAccumulator<N> {
     {
         match self.take_in(input) {
             FeedResult::Consumed => FeedResult::Consumed,
-            FeedResult::OverFull(rest) => FeedResult::OverFull(rest),
-            FeedResult::DeserError(rest) => FeedResult::DeserError(rest),
+            FeedResult::OverFull(remaining) => FeedResult::OverFull(remaining),
+            FeedResult::DeserError(remaining) => FeedResult::DeserError(remaining),
             FeedResult::Success {
                 value: data,
                 remaining,

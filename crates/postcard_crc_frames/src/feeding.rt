@@ -36,8 +36,8 @@ fn read<'a, T: DeserializeOwned, W: Width, I: Implementation<W>>(
 {
     match taken {
         FeedResult::Consumed => FeedResult::Consumed,
-        FeedResult::OverFull(rest) => FeedResult::OverFull(rest),
-        FeedResult::DeserError(rest) => FeedResult::DeserError(rest),
+        FeedResult::OverFull(remaining) => FeedResult::OverFull(remaining),
+        FeedResult::DeserError(remaining) => FeedResult::DeserError(remaining),
         FeedResult::Success {
             value: data,
             remaining,

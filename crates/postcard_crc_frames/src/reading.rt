@@ -41,12 +41,12 @@ fn feed_all<T: DeserializeOwned, W: Width, I: Implementation<W>, const N: usize>
             FeedResult::Consumed => {
                 return 0;
             }
-            FeedResult::OverFull(rest) => {
-                window = rest;
+            FeedResult::OverFull(remaining) => {
+                window = remaining;
                 keep(out, Answer::OverFull);
             }
-            FeedResult::DeserError(rest) => {
-                window = rest;
+            FeedResult::DeserError(remaining) => {
+                window = remaining;
                 keep(out, Answer::DeserError);
             }
             FeedResult::Success { value, remaining } => {

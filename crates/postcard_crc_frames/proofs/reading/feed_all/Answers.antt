@@ -31,14 +31,14 @@ returns g c = let e = eqb-true (length c.feeds.window.now) 0
 pub feeds-preserved-in-OverFull : goal.feeds-preserved-in-OverFull
 feeds-preserved-in-OverFull g c =
     let r = at_next g.row.N (IsOwn g.T.Shaped.shape g.W.Width.size c.args.crc.now) _ _ _ _ _ _ _
-    (OverFull c.in-OverFull.rest) c.held_fits-in-feeds.ensures.no_zero c.feeds.invariant
+    (OverFull c.in-OverFull.remaining) c.held_fits-in-feeds.ensures.no_zero c.feeds.invariant
     c.in-OverFull.ensures in
     rw (c.keep.ensures, c.reserve.ensures.items) r
 
 pub feeds-preserved-in-DeserError : goal.feeds-preserved-in-DeserError
 feeds-preserved-in-DeserError g c =
     let r = at_next g.row.N (IsOwn g.T.Shaped.shape g.W.Width.size c.args.crc.now) _ _ _ _ _ _ _
-    (DeserError c.in-DeserError.rest) c.held_fits-in-feeds.ensures.no_zero c.feeds.invariant
+    (DeserError c.in-DeserError.remaining) c.held_fits-in-feeds.ensures.no_zero c.feeds.invariant
     c.in-DeserError.ensures in
     rw (c.keep-in-DeserError.ensures, c.reserve.ensures.items) r
 

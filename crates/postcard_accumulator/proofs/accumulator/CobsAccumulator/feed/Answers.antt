@@ -6,7 +6,7 @@ use Rattle.postcard_accumulator.proofs.accumulator.CobsAccumulator.feed.Goals as
 pub returns-in-DeserError : goal.returns-in-DeserError
 returns-in-DeserError g c =
     let s = g.T.Shaped.shape in
-    read_refused (IsOwn s) c.in-DeserError.rest (refused_none s) g.row.N c.args.self.now
+    read_refused (IsOwn s) c.in-DeserError.remaining (refused_none s) g.row.N c.args.self.now
     c.args.input.now c.take_in.follows.lender-at-none
     (rw c.in-DeserError.is at c.take_in.follows.holds-at-none)
 
