@@ -1,7 +1,6 @@
 -- Messages of a type that an expression says, and their texts, as the calls for C return them.
 use Rattle.std.specs.Prelude.{◌≡◌, ℕ, ◌<◌, List, ◌++◌, length, drop, IfSome}
-use Rattle.postcard_wire.specs.Tree.{Tree}
-use Rattle.postcard_wire.specs.Spelling.{Spells, canonical}
+use Rattle.postcard_wire.specs.Spelling.{canonical}
 use Rattle.postcard_wire.specs.declared.error.Error.{Error}
 use Rattle.postcard_shape.specs.Shape.{never}
 use Rattle.postcard_de.specs.Reads.{IsReadError}
@@ -9,6 +8,8 @@ use Rattle.postcard_de.specs.Front.{ReadsFront}
 use Rattle.postcard_dyn_schema.specs.declared.schema.Schema.{Schema}
 use Rattle.postcard_dyn_schema.specs.Grammar.{IsExpression}
 use Rattle.postcard_dyn_schema.specs.Meaning.{type_of, reads}
+use Rattle.postcard_dyn.specs.Explained.{HasNoFront}
+use Rattle.postcard_dyn.specs.Refused.{IsRefusedAt}
 use Rattle.postcard_dyn.specs.Tree.{tree, IsTree}
 use Rattle.postcard_dyn.specs.declared.value.Value.{Value}
 use Rattle.postcard_dyn_text.specs.Shown.{layout_of, text}
@@ -22,19 +23,21 @@ pub record HasMessage (expression bytes : List ℕ) (taken : ℕ) : Type 0 where
   pub value : Value
   pub is : ReadsFront (reads (type_of schema)) IsTree bytes value (drop taken bytes)
 
--- No front of the bytes spells a tree of the set, and the status is the number of an error of reading.
-pub record IsRefused (reads : Tree → Type 0) (bytes : List ℕ) (status : ℕ) : Type 0 where
-  pub none : (t : Tree) (front rest : List ℕ) → reads t → Spells t front → bytes ≡ front ++ rest → ⊥
+-- No front of the bytes spells a value of the schema, reading one stops at the offset `place`, and the status is the number of an error
+-- of reading.
+pub record IsRefused (schema : Schema) (bytes : List ℕ) (place status : ℕ) : Type 0 where
+  pub none : HasNoFront schema bytes
+  pub path : List ℕ
+  pub at : IsRefusedAt schema bytes path place
   pub error : Error
   pub named : IsReadError never error
   pub number : status ≡ number_of error
 
--- The expression says a type of which no front of the bytes spells a value, and the status is the
--- number of an error of reading.
-pub record HasNoMessage (expression bytes : List ℕ) (status : ℕ) : Type 0 where
+-- So it is for the type that the expression says.
+pub record HasNoMessage (expression bytes : List ℕ) (place status : ℕ) : Type 0 where
   pub schema : Schema
   pub spelled : IsExpression schema expression
-  pub none : IsRefused (reads (type_of schema)) bytes status
+  pub refused : IsRefused schema bytes place status
 
 -- The first `taken` of the bytes spell a value of the type that the expression says, and `shown` is
 -- its text.

@@ -42,7 +42,7 @@ pub(crate) fn message_of(
     ensures read { IfOk result (λ value. ReadsFront (reads (type_of schema.now)) IsTree bytes.now value
         (drop place.new bytes.now)) }
     ensures refused { IfErr result
-        (λ status. (status ≡ 16) ⊎ IsRefused (reads (type_of schema.now)) bytes.now status) }
+        (λ status. (status ≡ 16) ⊎ IsRefused schema.now bytes.now place.new status) }
     ensures within { place.new ≤ length bytes.now }
 {
     match take_from_bytes(alloc, schema, bytes) {
@@ -54,19 +54,15 @@ pub(crate) fn message_of(
             *place = 0;
             Err(OUT_OF_MEMORY)
         }
-        Err(error) => {
-            *place = refused_place(alloc, schema, bytes);
-            Err(status_of(&error))
-        }
-    }
-}
-
-/// Returns the offset of the part that can't be read, or 0 if an allocation fails.
-fn refused_place(alloc: Global, schema: &Schema, bytes: &[u8]) -> usize
-    ensures { result ≤ length bytes.now }
-{
-    match refused_at(alloc, schema, bytes) {
-        Ok(place) => place,
-        Err(_) => 0,
+        Err(error) => match refused_at(alloc, schema, bytes) {
+            Ok(found) => {
+                *place = found.offset;
+                Err(status_of(&error))
+            }
+            Err(_) => {
+                *place = 0;
+                Err(OUT_OF_MEMORY)
+            }
+        },
     }
 }

@@ -41,7 +41,7 @@ pub extern "C" fn postcard_to_text(
     ensures unchanged { result ≢ 0 → text.new ≡ text.old }
     ensures bad_type { result ≡ 17 → place.new ≤ characters expression.now + 1 }
     ensures refused { result ≢ 0 → result ≢ 2 → result ≢ 16 → result ≢ 17
-        → HasNoMessage expression.now bytes.now result × (place.new ≤ length bytes.now) }
+        → HasNoMessage expression.now bytes.now place.new result × (place.new ≤ length bytes.now) }
 {
     let schema = match schema_of(alloc, expression, place) {
         Ok(schema) => schema,
@@ -159,7 +159,7 @@ pub extern "C" fn postcard_check(
     ensures is_message { result ≡ 0 → HasMessage expression.now bytes.now place.new }
     ensures bad_type { result ≡ 17 → place.new ≤ characters expression.now + 1 }
     ensures refused { result ≢ 0 → result ≢ 16 → result ≢ 17
-        → HasNoMessage expression.now bytes.now result × (place.new ≤ length bytes.now) }
+        → HasNoMessage expression.now bytes.now place.new result × (place.new ≤ length bytes.now) }
 {
     let schema = match schema_of(alloc, expression, place) {
         Ok(schema) => schema,

@@ -18,7 +18,7 @@ use Rattle.postcard_cli.specs.declared.failure.Failure.{Failure}
 use Rattle.postcard_cli.specs.declared.failure.Failure.TheVariants.{BadType, Library, OutOfMemory, Output, ReadFailed, UnknownChecksum}
 use Rattle.postcard_cli.specs.declared.stream.Stream.{Stream}
 use Rattle.postcard_cli.specs.Message.{Prints, ReadsValue}
-use Rattle.postcard_cli.specs.Place.{IsPathOf}
+use Rattle.postcard_dyn.specs.Refused.{IsPathOf}
 use Rattle.postcard_cli.specs.Receiving.{IsAfter, Continues, LacksLine, LinesFail, PrintsAnswer, PrintsMessage, Reads, ReadFails}
 use Rattle.postcard_cli.specs.Refusal.{FramesHexFail, IsStreamError, StreamCheckedFails, StreamFails, ValuesFail}
 use Rattle.postcard_cli.specs.declared.stream.Format.{Format}

@@ -25,7 +25,7 @@ use Rattle.postcard_dyn.specs.declared.explain.LineKind.TheVariants.{Value, Abse
 use Rattle.postcard_dyn.specs.declared.explain.Line.{Line}
 use Rattle.postcard_dyn_text.specs.Shown.{layout_of, text}
 use Rattle.postcard_cli.specs.Message.{StandsFor}
-use Rattle.postcard_cli.specs.Place.{IsPlaceOf}
+use Rattle.postcard_cli.specs.Place.{place_text}
 use Rattle.postcard_cli.specs.Stream.{refused_text}
 use Rattle.postcard_cli.specs.declared.explain.Layout.{Layout}
 
@@ -140,9 +140,8 @@ pub record IsExplainRefused (expression hex : List ℕ) (all : Bool) (known left
   pub error : Error
   pub named : IsReadError memory error
   pub not_memory : error ≢ OutOfMemory
+  pub path : List ℕ
   pub offset : ℕ
-  pub at : IsRefusedAt schema bytes offset
+  pub at : IsRefusedAt schema bytes path offset
   pub within : offset ≤ length bytes
-  pub place : List ℕ
-  pub is_place : IsPlaceOf schema bytes place
-  pub printed : Appends mid new (refused_text offset place error)
+  pub printed : Appends mid new (refused_text offset (place_text path) error)

@@ -11,7 +11,9 @@ use Rattle.postcard_de.specs.Reads.{IsReadError}
 use Rattle.postcard_dyn_schema.specs.declared.schema.Schema.{Schema}
 use Rattle.postcard_dyn_schema.specs.Grammar.{IsExpression}
 use Rattle.postcard_dyn.specs.Explained.{IsExplained, HasNoFront, bytes_of}
+use Rattle.postcard_dyn_schema.specs.Path.{dotted, element_path}
 use Rattle.postcard_dyn.specs.declared.explain.Label.{Label}
+use Rattle.postcard_dyn_schema.specs.Path.{dotted, element_path}
 use Rattle.postcard_dyn.specs.declared.explain.Label.TheVariants.{Whole, Field, Part, Element}
 use Rattle.postcard_dyn.specs.declared.explain.LineKind.{LineKind}
 use Rattle.postcard_dyn.specs.declared.explain.LineKind.TheVariants.{Value, Absent, Present, Count, Variant, Parts, MoreElements, Refused, AfterValue}
@@ -19,7 +21,6 @@ use Rattle.postcard_dyn.specs.declared.explain.Line.{Line}
 use Rattle.postcard_cli.specs.Explain.{expected_text}
 use Rattle.postcard_cli.specs.JsonMessage.{IsJsonOf, field_text}
 use Rattle.postcard_cli.specs.Message.{StandsFor}
-use Rattle.postcard_cli.specs.Place.{dotted, element_path}
 use Rattle.postcard_cli.specs.Reason.{reason_text}
 use Rattle.postcard_cli.specs.declared.json_explain.Open.{Open}
 

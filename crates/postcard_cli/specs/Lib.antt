@@ -37,7 +37,7 @@ pub use Rattle.postcard_dyn_schema.specs.Meaning.{has_bytes, type_of}
 pub use Rattle.postcard_dyn_schema.specs.Text.{characters}
 pub use Rattle.postcard_dyn_schema.specs.declared.schema.Schema.{Schema}
 pub use Rattle.postcard_dyn.specs.Explained.{HasNoFront}
-pub use Rattle.postcard_dyn.specs.Refused.{HasNoRow}
+pub use Rattle.postcard_dyn.specs.Refused.{IsPathOf}
 pub use Rattle.postcard_dyn.specs.Tree.{tree}
 pub use Rattle.postcard_dyn_text.specs.Shown.{joined, layout_of, text}
 pub use Rattle.postcard_cli.specs.Checked.{IsEncoding, PrintsEncodedChecked, PrintsEncodedRaw}
@@ -70,7 +70,6 @@ pub use Rattle.postcard_cli.specs.JsonMessage.{failed_line, field_text, refusal_
 pub use Rattle.postcard_cli.specs.Message.{Prints, PrintsAll, PrintsAllRaw, PrintsEach}
 pub use Rattle.postcard_cli.specs.Message.{PrintsEncoded, PrintsFirst, PrintsFirstRaw, PrintsFront}
 pub use Rattle.postcard_cli.specs.Message.{ReadsValue, StandsFor, line_of}
-pub use Rattle.postcard_cli.specs.Place.{IsPartPath, IsPathOf, StopsAt, StopsInRow, dotted}
 pub use Rattle.postcard_cli.specs.Place.{place_text}
 pub use Rattle.postcard_cli.specs.Program.{Performs, PrintsCall, PrintsDecode, PrintsEncode}
 pub use Rattle.postcard_cli.specs.Program.{form_of, list_of, one_word, whole_word}

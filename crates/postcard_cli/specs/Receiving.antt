@@ -7,7 +7,7 @@ use Rattle.postcard_shape.specs.Shape.{memory}
 use Rattle.postcard_de.specs.Reads.{IsReadError}
 use Rattle.postcard_dyn.specs.declared.value.Value.{Value}
 use Rattle.postcard_cli.specs.Message.{ReadsValue}
-use Rattle.postcard_cli.specs.Place.{IsPathOf}
+use Rattle.postcard_dyn.specs.Refused.{IsPathOf}
 use Rattle.postcard_cli.specs.Stream.{Answer, value, refused, unchecked, damaged, overfull, IsAnswerTo, IsUnchecked, PrintsAnswerLine, ReadsData, bytes_of, offset, PrintsLines}
 use Rattle.postcard_cli.specs.declared.failure.Failure.{Failure}
 use Rattle.postcard_cli.specs.declared.failure.Failure.TheVariants.{Library, OutOfMemory, Output, ReadFailed}

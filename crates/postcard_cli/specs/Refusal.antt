@@ -20,7 +20,7 @@ use Rattle.postcard_dyn_schema.specs.Grammar.{IsExpression}
 use Rattle.postcard_dyn_schema.specs.Meaning.{type_of, has_bytes, reads}
 use Rattle.postcard_dyn_schema.specs.Printed.{expression_error_text}
 use Rattle.postcard_dyn_schema.specs.Text.{characters}
-use Rattle.postcard_dyn.specs.Refused.{IsRefusedAt}
+use Rattle.postcard_dyn.specs.Refused.{IsPathOf, IsRefusedAt}
 use Rattle.postcard_dyn.specs.Tree.{tree}
 use Rattle.postcard_dyn.specs.declared.value.Value.{Value}
 use Rattle.postcard_dyn_json.specs.Printed.{IsPlaceIn as IsJsonPlace, colon_after, expected_text as json_expected_text}
@@ -40,7 +40,7 @@ use Rattle.postcard_cli.specs.Hexadecimal.{IsWrongHex}
 use Rattle.postcard_cli.specs.JsonExplain.{IsExplainJsonRefused}
 use Rattle.postcard_cli.specs.JsonMessage.{PrintsJsonLines, SpellsJson, refusal_text}
 use Rattle.postcard_cli.specs.Message.{lines_of, IsInput, Prints, ReadsValue, ReadsValues, StandsFor}
-use Rattle.postcard_cli.specs.Place.{IsPathOf, IsPlaceOf}
+use Rattle.postcard_cli.specs.Place.{place_text}
 use Rattle.postcard_cli.specs.Program.{Does, Form, form_of, PrintsCall}
 use Rattle.postcard_cli.specs.Reason.{reason_text}
 use Rattle.postcard_cli.specs.Receiving.{LinesFail}
@@ -163,12 +163,11 @@ pub record IsRefusalText (schema : Schema) (all rest shown : List ℕ) : Type 0 
   pub error : Error
   pub named : IsReadError memory error
   pub not_memory : error ≢ OutOfMemory
+  pub path : List ℕ
   pub offset : ℕ
-  pub at : IsRefusedAt schema rest offset
+  pub at : IsRefusedAt schema rest path offset
   pub within : offset ≤ length rest
-  pub place : List ℕ
-  pub is_place : IsPlaceOf schema rest place
-  pub is : shown ≡ refused_text (min ((length all - length rest) + offset) (2 ^ 64 - 1)) place error
+  pub is : shown ≡ refused_text (min ((length all - length rest) + offset) (2 ^ 64 - 1)) (place_text path) error
 
 -- The failures of reading and printing the value at the front of `rest`.
 abbrev pub FrontFails : Schema → List ℕ → List ℕ → Option (List ℕ) → Option (List ℕ) → Failure → Type 0
@@ -340,11 +339,10 @@ pub record IsFrontRefused (schema : Schema) (all rest : List ℕ) (old new : Opt
   pub error : Error
   pub named : IsReadError memory error
   pub not_memory : error ≢ OutOfMemory
-  pub offset : ℕ
-  pub at : IsRefusedAt schema rest offset
-  pub within : offset ≤ length rest
   pub path : List ℕ
-  pub is_path : IsPathOf schema rest path
+  pub offset : ℕ
+  pub at : IsRefusedAt schema rest path offset
+  pub within : offset ≤ length rest
   pub printed : Appends old new (refusal_text (min ((length all - length rest) + offset) (2 ^ 64 - 1)) error path)
 
 -- The failures of reading the value at the front of `rest`.
@@ -412,9 +410,9 @@ pub record IsContentRefused (schema : Schema) (content : List ℕ) (old new : Op
   pub error : Error
   pub named : IsReadError memory error
   pub not_memory : error ≢ OutOfMemory
-  pub place : List ℕ
-  pub is_place : IsPlaceOf schema content place
-  pub printed : Appends old new ((place ++ (reason_text error ++ codes ": ")) ++ encode_lower content)
+  pub path : List ℕ
+  pub is_path : IsPathOf schema content path
+  pub printed : Appends old new ((place_text path ++ (reason_text error ++ codes ": ")) ++ encode_lower content)
 
 -- The failures of reading the value at the front of a frame's data.
 abbrev pub ContentFails : Schema → List ℕ → Option (List ℕ) → Option (List ℕ) → Failure → Type 0

@@ -13,10 +13,11 @@ use Rattle.postcard_dyn_schema.specs.declared.schema.Schema.{Schema}
 use Rattle.postcard_dyn.specs.Tree.{tree}
 use Rattle.postcard_dyn.specs.declared.value.Value.{Value}
 use Rattle.postcard_dyn_text.specs.Shown.{layout_of, text}
+use Rattle.postcard_dyn.specs.Refused.{IsPathOf}
 use Rattle.postcard_cli.specs.Checksum.{HasNoTrailer, IsTrailer, checksum_name}
 use Rattle.postcard_cli.specs.JsonMessage.{PrintsJsonLine, failed_line, field_text}
 use Rattle.postcard_cli.specs.Message.{Prints, ReadsValue}
-use Rattle.postcard_cli.specs.Place.{IsPathOf, place_text}
+use Rattle.postcard_cli.specs.Place.{place_text}
 use Rattle.postcard_cli.specs.Reason.{reason_text}
 use Rattle.postcard_cli.specs.declared.checksum.Checksum.{Checksum}
 use Rattle.postcard_cli.specs.declared.stream.Format.{Format}

@@ -12,10 +12,10 @@ use crate::failure::Failure;
 use crate::hexadecimal;
 use crate::limits::READS;
 use crate::message::{print_refused, schema_of};
-use crate::place::place_of;
+use crate::place::place_text;
 use postcard_de_flavors::Reader;
 use postcard_dyn::explain::{Expected, Label, Line, LineKind, explain};
-use postcard_dyn::{Leaf, Schema, Value, refused_at};
+use postcard_dyn::{Leaf, RefusedPart, Schema, Value, refused_at};
 use postcard_dyn_text::Shown;
 use std::alloc::Global;
 use std::fmt;
@@ -75,8 +75,8 @@ pub fn print<R: Reader, W: Write>(
     match explanation.refused {
         None => Ok(()),
         Some(error) => {
-            let offset = refused_at(alloc, &schema, &bytes)?;
-            let place = place_of(alloc, &schema, &bytes)?;
+            let RefusedPart { offset, path } = refused_at(alloc, &schema, &bytes)?;
+            let place = place_text(path)?;
             print_refused(offset, &place, &error, output)?;
             Err(Failure::Refused)
         }

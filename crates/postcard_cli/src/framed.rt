@@ -10,13 +10,13 @@ use crate::failure::Failure;
 use crate::hexadecimal;
 use crate::limits::{BUFFER, READS};
 use crate::message::{encoding_of, schema_of};
-use crate::place::place_of;
+use crate::place::place_text;
 use crate::reason::reason;
 use crate::stream::print_value;
 use arrayvec::ArrayVec;
 use postcard_cobs::{decode_in_place, frame_len};
 use postcard_de_flavors::Reader;
-use postcard_dyn::{Schema, Value, take_from_bytes};
+use postcard_dyn::{RefusedPart, Schema, Value, refused_at, take_from_bytes};
 use postcard_ser_cobs::Cobs;
 use postcard_ser_flavors::{Flavor, HVec};
 use postcard_wire::Error;
@@ -165,7 +165,8 @@ fn read_content<'a, W: Write>(
         Ok((value, rest)) => Ok((value, rest)),
         Err(Error::OutOfMemory) => Err(Failure::from(Error::OutOfMemory)),
         Err(error) => {
-            let place = place_of(alloc, schema, content)?;
+            let RefusedPart { path, .. } = refused_at(alloc, schema, content)?;
+            let place = place_text(path)?;
             print_refused(&place, &error, content, output)?;
             Err(Failure::Refused)
         }

@@ -14,10 +14,10 @@ use crate::hexadecimal;
 use crate::json_message::{field_of, quote, text_of};
 use crate::limits::READS;
 use crate::message::schema_of;
-use crate::place::push_dot;
 use crate::reason::reason;
 use postcard_de_flavors::Reader;
 use postcard_dyn::explain::{Expected, Label, Line, LineKind, explain};
+use postcard_dyn_schema::path::{push_element, push_name, push_part};
 use postcard_wire::Error;
 use std::alloc::Global;
 use std::io::Write;
@@ -144,20 +144,9 @@ fn push_label(label: Label<'_>, path: &mut String) -> Result<(), Failure>
 {
     match label {
         Label::Whole => Ok(()),
-        Label::Field(name) => {
-            push_dot(path)?;
-            path.push_str(name)?;
-            Ok(())
-        }
-        Label::Part(number) => {
-            push_dot(path)?;
-            write!(path, "{number}")?;
-            Ok(())
-        }
-        Label::Element(number) => {
-            write!(path, "[{number}]")?;
-            Ok(())
-        }
+        Label::Field(name) => Ok(push_name(path, name)?),
+        Label::Part(number) => Ok(push_part(path, number)?),
+        Label::Element(number) => Ok(push_element(path, number)?),
     }
 }
 
@@ -184,8 +173,7 @@ fn inner_path(path: String, kind: &LineKind<'_>) -> Result<String, Failure>
     match kind {
         LineKind::Variant(_, name) => {
             let mut inner = path;
-            push_dot(&mut inner)?;
-            inner.push_str(name)?;
+            push_name(&mut inner, name)?;
             Ok(inner)
         }
         _ => Ok(path),

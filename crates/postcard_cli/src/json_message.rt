@@ -12,11 +12,10 @@ use crate::failure::Failure;
 use crate::hexadecimal;
 use crate::limits::{BUFFER, READS};
 use crate::message::{schema_of, schema_of_records};
-use crate::place::path_of;
 use crate::reason::reason;
 use arrayvec::ArrayVec;
 use postcard_de_flavors::Reader;
-use postcard_dyn::{Schema, Value, refused_at, take_from_bytes, to_flavor};
+use postcard_dyn::{RefusedPart, Schema, Value, refused_at, take_from_bytes, to_flavor};
 use postcard_dyn_json::error::colon_after;
 use postcard_dyn_json::{JsonTextError, read_json, to_json};
 use postcard_ser_flavors::HVec;
@@ -178,9 +177,8 @@ fn read_front<'a, W: Write>(
         Err(Error::OutOfMemory) => Err(Failure::from(Error::OutOfMemory)),
         Err(error) => {
             let before = all.len().saturating_sub(rest.len());
-            let offset = before.saturating_add(refused_at(alloc, schema, rest)?);
-            let path = path_of(alloc, schema, rest)?;
-            print_refused(alloc, offset, &error, &path, output)?;
+            let RefusedPart { offset, path } = refused_at(alloc, schema, rest)?;
+            print_refused(alloc, before.saturating_add(offset), &error, &path, output)?;
             Err(Failure::Refused)
         }
     }

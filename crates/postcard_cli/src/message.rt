@@ -16,12 +16,14 @@ ghost use Rattle.postcard_dyn.specs.declared.value.Value.{Value};
 use crate::checksum::Checksum;
 use crate::failure::Failure;
 use crate::limits::{BUFFER, READS};
-use crate::place::place_of;
+use crate::place::place_text;
 use crate::reason::reason;
 use crate::{checksum, hexadecimal};
 use arrayvec::ArrayVec;
 use postcard_de_flavors::Reader;
-use postcard_dyn::{Problem, Schema, Value, parse, refused_at, take_from_bytes, to_flavor};
+use postcard_dyn::{
+    Problem, RefusedPart, Schema, Value, parse, refused_at, take_from_bytes, to_flavor,
+};
 use postcard_dyn_text::{Shown, TextError, read_text};
 use postcard_ser_flavors::HVec;
 use postcard_wire::Error;
@@ -400,9 +402,9 @@ fn read_front<'a, W: Write>(
         Err(Error::OutOfMemory) => Err(Failure::from(Error::OutOfMemory)),
         Err(error) => {
             let before = all.len().saturating_sub(rest.len());
-            let offset = before.saturating_add(refused_at(alloc, schema, rest)?);
-            let place = place_of(alloc, schema, rest)?;
-            print_refused(offset, &place, &error, output)?;
+            let RefusedPart { offset, path } = refused_at(alloc, schema, rest)?;
+            let place = place_text(path)?;
+            print_refused(before.saturating_add(offset), &place, &error, output)?;
             Err(Failure::Refused)
         }
     }

@@ -16,13 +16,13 @@ use crate::checksum::Checksum;
 use crate::failure::Failure;
 use crate::limits::{CHUNK, LINE, LONGEST, READS};
 use crate::message::schema_of;
-use crate::place::{path_of, place_of};
+use crate::place::place_text;
 use crate::reason::reason;
 use crate::{checksum, hexadecimal, json_stream};
 use arrayvec::ArrayString;
 use postcard_cobs::{decode_in_place, frame_len};
 use postcard_de_flavors::Reader;
-use postcard_dyn::{Schema, Value, take_from_bytes};
+use postcard_dyn::{RefusedPart, Schema, Value, refused_at, take_from_bytes};
 use postcard_dyn_text::Shown;
 use postcard_wire::Error;
 use std::alloc::Global;
@@ -524,19 +524,17 @@ fn print_unread<W: Write>(
         (W.contents output.old) (W.contents output.new)) }
     ensures refused { IfErr result (LinesFail format.now) }
 {
+    let Ok(RefusedPart { path, .. }) = refused_at(alloc, &format.schema, message) else {
+        return Err(Failure::OutOfMemory);
+    };
     match format.notation {
         Notation::Text => {
-            let Ok(place) = place_of(alloc, &format.schema, message) else {
+            let Ok(place) = place_text(path) else {
                 return Err(Failure::OutOfMemory);
             };
             print_error(start, &place, reason(error), message, output)
         }
-        Notation::Json => {
-            let Ok(path) = path_of(alloc, &format.schema, message) else {
-                return Err(Failure::OutOfMemory);
-            };
-            json_stream::print_refused(alloc, start, &path, error, message, output)
-        }
+        Notation::Json => json_stream::print_refused(alloc, start, &path, error, message, output),
     }
 }
 

@@ -24,6 +24,7 @@ pub use Rattle.postcard_fixint.specs.Fixed.{IsFixed, unsigned}
 pub use Rattle.postcard_dyn_schema.specs.Fixed.{size_of}
 pub use Rattle.postcard_dyn_schema.specs.Meaning.{MessageType, has_bytes, leaf_reads, reads}
 pub use Rattle.postcard_dyn_schema.specs.Meaning.{reads_all, reads_at, type_of, types_of}
+pub use Rattle.postcard_dyn_schema.specs.Path.{IsPartPath, element_path}
 pub use Rattle.postcard_dyn_schema.specs.declared.schema.Schema.{Schema}
 pub use Rattle.postcard_dyn_schema.specs.declared.schema.Schema.TheVariants.{Array, Leaf as AsLeaf}
 pub use Rattle.postcard_dyn_schema.specs.declared.schema.Schema.TheVariants.{Enum, Group, Map}
@@ -32,7 +33,7 @@ pub use Rattle.postcard_dyn.specs.Explained.{Explains, ExplainsElements, Explain
 pub use Rattle.postcard_dyn.specs.Explained.{ExplainsParts, HasNoFront, IsAt, IsExplained, IsLast}
 pub use Rattle.postcard_dyn.specs.Explained.{IsNameOf, IsOwn, Opens, Walks, bytes_of, deeper}
 pub use Rattle.postcard_dyn.specs.Fixed.{IsBitsOf, signed_of as number_of, order_of}
-pub use Rattle.postcard_dyn.specs.Refused.{HasNoRow, IsRefusedAt, RefusedInRow}
+pub use Rattle.postcard_dyn.specs.Refused.{HasNoRow, IsRefusedAt, StopsAt, StopsInRow}
 pub use Rattle.postcard_dyn.specs.Tree.{AreTrees, IsTree, tree}
 pub use Rattle.postcard_dyn.specs.declared.explain.Label.TheVariants.{Element, Whole}
 pub use Rattle.postcard_dyn.specs.declared.explain.Line.{Line}

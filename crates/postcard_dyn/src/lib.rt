@@ -17,7 +17,7 @@ pub mod write;
 
 pub use calls::{take_from_bytes, to_flavor};
 pub use explain::{Expected, Explanation, Label, Line, LineKind};
-pub use place::refused_at;
+pub use place::{RefusedPart, refused_at};
 pub use postcard_dyn_schema::{ByteOrder, ExpressionError, Integer, Leaf, Problem, Schema, parse};
 pub use read::read_value;
 pub use value::Value;

@@ -14,3 +14,4 @@ pub mod AngledSchemas
 pub mod LeftOfType
 pub mod LeftOfReference
 pub mod Refusals
+pub mod PathLemmas

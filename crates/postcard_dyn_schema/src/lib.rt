@@ -9,6 +9,7 @@ pub mod expression;
 pub mod fixed;
 pub mod literal;
 pub mod names;
+pub mod path;
 pub mod scan;
 pub mod schema;
 

@@ -4,10 +4,11 @@ use Rattle.std.specs.Prelude.{Option, Some, None, if◌then◌else◌, string_by
 use Rattle.std.specs.declared.alloc.Global.{Global}
 use Rattle.std.specs.declared.string.String.{String}
 use Rattle.std.proofs.Math.ListN.{drop_of_length-le}
+use Rattle.postcard_dyn_schema.specs.Path.{dotted}
 use Rattle.postcard_dyn_schema.specs.declared.schema.Leaf.{Leaf}
 use Rattle.postcard_dyn_schema.specs.declared.schema.Schema.{Schema, the_lemmas}
 use Rattle.postcard_dyn_schema.specs.declared.schema.Schema.TheVariants as schemas
-use Rattle.postcard_dyn_size.specs.Endless.{Finder, endless, element_path, inner_path, own_path, in_elements, in_parts, in_variants, is_endless_leaf}
+use Rattle.postcard_dyn_size.specs.Endless.{Finder, endless, each_path, own_path, in_elements, in_parts, in_variants, is_endless_leaf}
 use Rattle.postcard_dyn_size.proofs.Rows.{cut}
 
 -- ---- Types by their kind
@@ -19,10 +20,10 @@ module _ (number : Option ℕ) (path : List ℕ) where
   pub endless_option : (b : Box Schema Global) → endless (schemas.Option b) number path ≡ endless b.value None (own_path number path)
   endless_option b = search (rules, the_lemmas)
 
-  pub endless_seq : (b : Box Schema Global) → endless (schemas.Seq b) number path ≡ own_path number path ∷ endless b.value None (element_path (own_path number path))
+  pub endless_seq : (b : Box Schema Global) → endless (schemas.Seq b) number path ≡ own_path number path ∷ endless b.value None (each_path (own_path number path))
   endless_seq b = search (rules, the_lemmas)
 
-  pub endless_map : (b : Box Schema Global) → endless (schemas.Map b) number path ≡ own_path number path ∷ endless b.value None (element_path (own_path number path))
+  pub endless_map : (b : Box Schema Global) → endless (schemas.Map b) number path ≡ own_path number path ∷ endless b.value None (each_path (own_path number path))
   endless_map b = search (rules, the_lemmas)
 
   pub endless_array : (b : Box Schema Global) (n : ℕ) → endless (schemas.Array b n) number path ≡ in_elements n (endless b.value) (own_path number path)
@@ -34,11 +35,11 @@ module _ (number : Option ℕ) (path : List ℕ) where
   pub endless_enum : (v : Vec Schema Global) → endless (schemas.Enum v) number path ≡ in_variants (map endless v.items) (own_path number path)
   endless_enum v = search (rules, the_lemmas)
 
-  pub endless_named : (name : String Global) (b : Box Schema Global) → endless (schemas.Named name b) number path ≡ endless b.value None (inner_path path (string_bytes name))
+  pub endless_named : (name : String Global) (b : Box Schema Global) → endless (schemas.Named name b) number path ≡ endless b.value None (dotted path ++ string_bytes name)
   endless_named name b = search (rules, the_lemmas)
 
 -- An array with elements has the paths of one of them.
-pub some_elements : (n : ℕ) (find : Finder) (path : List ℕ) → 0 < n → in_elements n find path ≡ find None (element_path path)
+pub some_elements : (n : ℕ) (find : Finder) (path : List ℕ) → 0 < n → in_elements n find path ≡ find None (each_path path)
 some_elements zero find path h = absurd (omega (arith, h))
 some_elements (suc n) find path h = refl
 

@@ -2,19 +2,15 @@
 use Rattle.std.specs.Prelude.{ℕ, zero, suc, ◌+◌, Bool, true, false, if◌then◌else◌, List, [], ◌∷◌, ◌++◌, codes, Option, Some, None, string_bytes, box_value}
 use Rattle.std.specs.List.{flat_map}
 use Rattle.std.specs.Fmt.{decimal}
+use Rattle.postcard_dyn_schema.specs.Path.{dotted}
 use Rattle.postcard_dyn_schema.specs.declared.schema.Leaf.{Leaf}
 use Rattle.postcard_dyn_schema.specs.declared.schema.Leaf.TheVariants.{Str, Bytes}
 use Rattle.postcard_dyn_schema.specs.declared.schema.Schema.{Schema, fold-Schema}
 use Rattle.postcard_dyn_schema.specs.declared.schema.Schema.TheOpen.{Schema-F}
 
--- The path of a part with this name or number in a type: both with a `.` between them, but the name alone in the whole type.
-abbrev pub inner_path : List ℕ → List ℕ → List ℕ
-inner_path [] name = name
-inner_path (c ∷ path) name = (c ∷ path) ++ (46 ∷ name)
-
 -- The path of each element of a list or an array.
-abbrev pub element_path : List ℕ → List ℕ
-element_path path = path ++ codes "[]"
+abbrev pub each_path : List ℕ → List ℕ
+each_path path = path ++ codes "[]"
 
 -- The paths of the parts of a type, from the path of what the type is in. A part of a tuple is called by its number, unless
 -- it is a field, which has a name.
@@ -23,7 +19,7 @@ Finder = Option ℕ → List ℕ → List (List ℕ)
 
 abbrev pub own_path : Option ℕ → List ℕ → List ℕ
 own_path None path = path
-own_path (Some i) path = inner_path path (decimal i)
+own_path (Some i) path = dotted path ++ decimal i
 
 -- The parts in a row, the first of which has the number i.
 abbrev pub in_parts : ℕ → List Finder → List ℕ → List (List ℕ)
@@ -35,7 +31,7 @@ in_variants finders path = flat_map (λ find. find None path) finders
 
 abbrev pub in_elements : ℕ → Finder → List ℕ → List (List ℕ)
 in_elements zero find path = []
-in_elements (suc n) find path = find None (element_path path)
+in_elements (suc n) find path = find None (each_path path)
 
 abbrev pub is_endless_leaf : Leaf → Bool
 is_endless_leaf Str = true
@@ -46,12 +42,12 @@ is_endless_leaf l = false
 abbrev pub endless_step : Schema-F Finder → Finder
 endless_step (Schema-F.Leaf l) number path = if is_endless_leaf l then own_path number path ∷ [] else []
 endless_step (Schema-F.Option find) number path = box_value find None (own_path number path)
-endless_step (Schema-F.Seq find) number path = own_path number path ∷ box_value find None (element_path (own_path number path))
-endless_step (Schema-F.Map find) number path = own_path number path ∷ box_value find None (element_path (own_path number path))
+endless_step (Schema-F.Seq find) number path = own_path number path ∷ box_value find None (each_path (own_path number path))
+endless_step (Schema-F.Map find) number path = own_path number path ∷ box_value find None (each_path (own_path number path))
 endless_step (Schema-F.Array find n) number path = in_elements n (box_value find) (own_path number path)
 endless_step (Schema-F.Group v) number path = in_parts 0 v.items (own_path number path)
 endless_step (Schema-F.Enum v) number path = in_variants v.items (own_path number path)
-endless_step (Schema-F.Named name find) number path = box_value find None (inner_path path (string_bytes name))
+endless_step (Schema-F.Named name find) number path = box_value find None (dotted path ++ string_bytes name)
 
 -- The paths of the parts of a schema that have no greatest size, in order.
 abbrev pub endless : Schema → Finder

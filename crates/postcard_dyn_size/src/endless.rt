@@ -3,9 +3,10 @@
 
 ghost use Rattle.std.specs.Prelude.{◌≡◌, ◌++◌, ◌∷◌, [], if◌then◌else◌, None, Some, IfErr, IfOk};
 ghost use Rattle.std.specs.Prelude.{OnOk, map, string_bytes};
-ghost use Rattle.postcard_dyn_size.specs.{element_path, endless, in_parts, in_variants, inner_path};
+ghost use Rattle.postcard_dyn_size.specs.{dotted, each_path, endless, in_parts, in_variants};
 ghost use Rattle.postcard_dyn_size.specs.{is_endless_leaf};
 
+use postcard_dyn_schema::path::{push_name, push_part};
 use postcard_dyn_schema::{Leaf, Schema};
 use postcard_wire::{Error, Result};
 use std::alloc::Global;
@@ -13,10 +14,8 @@ use std::alloc::Global;
 /// Returns the paths of the parts of a type that have no greatest size, in order: its texts, byte
 /// strings, lists and maps. The path of the type as a whole is empty.
 ///
-/// A field and a variant is its name, and a part of a tuple its number, counted from 0, each with a
-/// `.` before it, unless it comes first; `[]` stands for each element of a list or an array, and
-/// each entry of a map, whose key is part 0 and whose value part 1. An array without elements has
-/// no parts.
+/// Paths are made by the rules of [`path`](postcard_dyn_schema::path), but `[]` stands for each
+/// element of a list or an array, and each entry of a map. An array without elements has no parts.
 ///
 /// # Errors
 ///
@@ -93,7 +92,7 @@ fn push_in_elements(
     paths: &mut Vec<String>,
 ) -> Result<()>
     ensures added { OnOk result (map string_bytes paths.new.items ≡ map string_bytes paths.old.items
-        ++ endless element.now None (element_path path.now)) }
+        ++ endless element.now None (each_path path.now)) }
     ensures only_out_of_memory { IfErr result (λ e. e ≡ Error.OutOfMemory) }
 {
     let own = format!(in alloc; "{path}[]")?;
@@ -142,22 +141,20 @@ fn part_path(alloc: Global, part: &Schema, number: usize, path: &str) -> Result<
         ≡ endless part.now None (string_bytes own)) }
     ensures only_out_of_memory { IfErr result (λ e. e ≡ Error.OutOfMemory) }
 {
+    let mut own = String::from_str(alloc, path)?;
     match part {
-        Schema::Named(_, _) => Ok(String::from_str(alloc, path)?),
-        _ => {
-            let number = format!(in alloc; "{number}")?;
-            inner(alloc, path, &number)
-        }
+        Schema::Named(_, _) => {}
+        _ => push_part(&mut own, number)?,
     }
+    Ok(own)
 }
 
-/// Returns the path of a part with this name or number in the type at a path.
+/// Returns the path of a part with this name in the type at a path.
 fn inner(alloc: Global, path: &str, name: &str) -> Result<String>
-    ensures made { IfOk result (λ own. string_bytes own ≡ inner_path path.now name.now) }
+    ensures made { IfOk result (λ own. string_bytes own ≡ dotted path.now ++ name.now) }
     ensures only_out_of_memory { IfErr result (λ e. e ≡ Error.OutOfMemory) }
 {
-    if path.is_empty() {
-        return Ok(String::from_str(alloc, name)?);
-    }
-    Ok(format!(in alloc; "{path}.{name}")?)
+    let mut own = String::from_str(alloc, path)?;
+    push_name(&mut own, name)?;
+    Ok(own)
 }

@@ -85,7 +85,9 @@ fn check_lines(
 /// within the message, and that of the last line that explains the message.
 fn check_error(rt: &(impl Abort + AllocGlobal), schema: &Schema, message: &[u8], error: &Error) {
     same(rt, is_of_reading(error), true, error);
-    let place = refused_at(rt.alloc(), schema, message).expect(rt, "memory");
+    let place = refused_at(rt.alloc(), schema, message)
+        .expect(rt, "memory")
+        .offset;
     same(rt, place <= message.len(), true, message);
     let last = check_lines(rt, schema, message, Some(error));
     same(rt, place.saturating_add(last), message.len(), message);

@@ -6,6 +6,7 @@ returns-clause-refused g c =
     let told = c.in_ok-explanation.ensures in
     let none = rw c.in-Some.is at told.stopped in
     let rows = c.in_ok-print_lines.ensures.printed in
+    let part = c.in_ok-offset-in-Some in
     record {
       schema = c.in_ok-schema.schema;
       spelled = c.in_ok-schema.ensures.spelled;
@@ -21,10 +22,9 @@ returns-clause-refused g c =
       error = c.in-Some.error;
       named = none.1;
       not_memory = none.2;
-      offset = c.in_ok-offset-in-Some.offset;
-      at = (rw c.deref-in-Some.ensures.value at c.in_ok-offset-in-Some.ensures.at) (rw c.deref.ensures.value at none.0);
-      within = rw c.deref-in-Some.ensures.value at c.in_ok-offset-in-Some.ensures.within;
-      place = string_bytes c.in_ok-place-in-Some.place;
-      is_place = (rw c.deref-in-Some-2.ensures.value at c.in_ok-place-in-Some.ensures.named) (rw c.deref.ensures.value at none.0);
-      printed = rw c.deref-in-Some-3.ensures at c.in_ok-print_refused-in-Some.ensures.printed;
+      path = string_bytes part.field-0.path;
+      offset = part.field-0.offset;
+      at = (rw c.deref-in-Some.ensures.value at part.ensures.at) (rw c.deref.ensures.value at none.0);
+      within = rw c.deref-in-Some.ensures.value at part.ensures.within;
+      printed = rw (c.deref-in-Some-2.ensures, c.in_ok-place-in-Some.ensures.printed) at c.in_ok-print_refused-in-Some.ensures.printed;
     }
