@@ -1,7 +1,6 @@
 -- Lemmas on messages with a checksum behind them: where the message ends, and which failure comes when.
-use Rattle.std.proofs.Common.{◌≡◌, inl, inr, ℕ, ◌-◌, ◌≤◌, List, ◌++◌, length, take, Option, subst, sym, ap, ◌∙◌, length-append, take_all, arith}
+use Rattle.std.proofs.Common.{◌≡◌, inl, inr, ℕ, ◌-◌, ◌≤◌, List, ◌++◌, length, take, Option, subst, ap, ◌∙◌, length-append, take_all, arith}
 use Rattle.std.proofs.lemmas.List.{take-append-le}
-use Rattle.postcard_wire.specs.declared.error.Error.{Error}
 use Rattle.postcard_dyn_schema.specs.declared.schema.Schema.{Schema}
 use Rattle.postcard_dyn_schema.specs.Grammar.{IsExpression}
 use Rattle.postcard_dyn.specs.declared.value.Value.{Value}

@@ -1,5 +1,5 @@
 -- Numbers of a fixed width: the order of their bytes, and the numbers that bits are in two's complement.
-use Rattle.std.specs.Prelude.{◌≡◌, ℕ, suc, ◌-◌, ◌*◌, ◌<◌, ◌^◌, nat_lt, if◌then◌else◌, ℤ, pos, negsuc, List, [], ◌∷◌, map}
+use Rattle.std.specs.Prelude.{◌≡◌, ℕ, suc, ◌-◌, ◌*◌, ◌^◌, nat_lt, if◌then◌else◌, ℤ, pos, negsuc, List, [], ◌∷◌, map}
 use Rattle.postcard_wire.specs.Number.{InRange}
 use Rattle.postcard_wire.specs.Tree.{Tree, Trees, Byte, Then, trees}
 use Rattle.postcard_wire.specs.Tree as nodes

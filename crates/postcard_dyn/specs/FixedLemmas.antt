@@ -1,13 +1,12 @@
 -- Lemmas on numbers of a fixed width: their bits and their bytes.
-use Rattle.std.proofs.Common.{◌≡◌, ℕ, zero, suc, ◌+◌, ◌-◌, ◌*◌, ◌/◌, ◌%◌, ◌<◌, ◌≤◌, ◌^◌, Bool, true, false, ℤ, pos, negsuc, List, [], ◌∷◌, map, refl, sym, ap, ap₂, ◌∙◌, subst, arith}
+use Rattle.std.proofs.Common.{◌≡◌, ℕ, zero, suc, ◌+◌, ◌-◌, ◌*◌, ◌/◌, ◌%◌, ◌<◌, ◌≤◌, ◌^◌, Bool, true, false, ℤ, pos, negsuc, List, [], ◌∷◌, map, refl, sym, ap, ap₂, ◌∙◌, arith}
 use Rattle.std.specs.Prelude.{nat_lt, if◌then◌else◌, reverse, FitsSigned}
 use Rattle.std.specs.Int.{w128}
 use Rattle.std.proofs.lemmas.Int.{ints}
 use Rattle.std.proofs.lemmas.Bool.Decides.{nat_tests}
 use Rattle.std.proofs.lemmas.Nat.{mod-pow-add}
-use Rattle.postcard_wire.specs.Number.{InRange}
-use Rattle.postcard_wire.specs.Tree.{Trees, Byte, trees}
-use Rattle.postcard_shape.specs.Base256.{Order, low_first}
+use Rattle.postcard_wire.specs.Tree.{Byte, trees}
+use Rattle.postcard_shape.specs.Base256.{low_first}
 use Rattle.postcard_fixint.specs.Fixed.{twos_complement}
 use Rattle.postcard_dyn_schema.specs.declared.fixed.ByteOrder.{ByteOrder}
 use Rattle.postcard_dyn_schema.specs.declared.fixed.ByteOrder.TheVariants.{Little, Big}

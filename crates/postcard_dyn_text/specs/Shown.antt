@@ -6,7 +6,6 @@ use Rattle.std.specs.Int.{w8, cast_signed}
 use Rattle.std.specs.Fmt.{◌++?◌, decimal, signed_decimal, digits, debug_char, debug_str}
 use Rattle.postcard_wire.specs.Tree.{Tree, Trees, Byte, Boolean, Num, Int, Text, NoTrees, Then}
 use Rattle.postcard_wire.specs.Tree as nodes
-use Rattle.postcard_shape.specs.Base256.{Order}
 use Rattle.postcard_dyn_schema.specs.Fixed.{size_of, is_signed}
 use Rattle.postcard_dyn.specs.Fixed.{order_of, bytes_of, signed_of}
 use Rattle.postcard_dyn_schema.specs.declared.schema.Leaf.{Leaf}

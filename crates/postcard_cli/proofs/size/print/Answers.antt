@@ -1,5 +1,5 @@
 -- What is printed is that of the type's least and greatest sizes.
-use Rattle.std.proofs.Common.{ap, sym, ◌∙◌, map}
+use Rattle.std.proofs.Common.{ap, ◌∙◌, map}
 use Rattle.std.specs.Prelude.{string_bytes}
 use Rattle.postcard_cli.proofs.SizeLemmas.{bounded_printed, endless_printed}
 use Rattle.postcard_cli.proofs.size.print.Goals as goal

@@ -1,12 +1,9 @@
-use Rattle.std.proofs.Common.{◌≡◌, true, ◌∙◌, ℤ, sym, subst}
+use Rattle.std.proofs.Common.{◌≡◌, ◌∙◌, ℤ, sym, subst}
 use Rattle.std.specs.Prelude.{FitsSigned}
 use Rattle.std.specs.Int.{w128, cast_signed, cast_unsigned}
 use Rattle.std.proofs.lemmas.Int.{to_z-of_z}
-use Rattle.postcard_dyn_schema.specs.Text.{Led}
-use Rattle.postcard_dyn_schema.specs.Phrases.{takes_as}
 use Rattle.postcard_dyn.specs.Fixed.{IsBitsOf}
 use Rattle.postcard_dyn.specs.FixedLemmas.{fits_128, same_bits}
-use Rattle.postcard_dyn_text.specs.Numbers.{IsSigned, SpellsBits}
 use Rattle.postcard_dyn_text.proofs.number.read_signed_bits.Goals as goal
 
 -- A number that fits in the width is kept as it is.

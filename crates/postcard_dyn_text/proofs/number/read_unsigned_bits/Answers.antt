@@ -1,9 +1,6 @@
-use Rattle.std.proofs.Common.{◌≡◌, ◌<◌, ◌^◌, ◌∙◌, sym, subst, arith}
+use Rattle.std.proofs.Common.{◌<◌, ◌^◌, sym, subst, arith}
 use Rattle.postcard_dyn_schema.specs.Fixed.{size_of}
-use Rattle.postcard_dyn_schema.specs.Text.{Led}
-use Rattle.postcard_dyn_schema.specs.Phrases.{takes_as}
 use Rattle.postcard_dyn.specs.FixedLemmas.{at_most_128}
-use Rattle.postcard_dyn_text.specs.Numbers.{IsUnsigned, SpellsBits}
 use Rattle.postcard_dyn_text.proofs.number.read_unsigned_bits.Goals as goal
 
 pub returns-in_err-n-clause-accepted : goal.returns-in_err-n-clause-accepted

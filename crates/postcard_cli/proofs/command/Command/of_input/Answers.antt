@@ -1,7 +1,7 @@
 -- A command, `--raw` and a type are a call only of the commands that read the input: `--raw` is no type.
 use Rattle.std.proofs.Common.{◌≡◌, codes, arith}
 use Rattle.std.proofs.lemmas.Grind.{common_steps}
-use Rattle.postcard_cli.specs.Command.{IsCallOf, IsWordOf, LooksLikeExpression}
+use Rattle.postcard_cli.specs.Command.{IsWordOf, LooksLikeExpression}
 use Rattle.postcard_cli.specs.declared.command.TypeWord.{TypeWord}
 use Rattle.postcard_cli.specs.declared.command.TypeWord.TheVariants.{Named, Expression}
 use Rattle.postcard_cli.proofs.Calls.{neither, three}
