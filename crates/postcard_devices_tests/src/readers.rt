@@ -1,5 +1,5 @@
-//! Tests of reading values from readers: steady ones, in pieces of several lengths, the same without
-//! a promise, and one that fails.
+//! Tests of reading values from readers: steady ones, in pieces of several lengths, the same that
+//! don't promise to be steady, and one that fails.
 
 use crate::OLD;
 use crate::asserts::{assert_read, assert_refused, assert_scratch, same, same_bytes};
@@ -122,7 +122,7 @@ fn copies_texts<'b, R: Reader + 'b>(rt: &(impl Abort + AllocGlobal), reader: R) 
     assert_unread(rt, reader, &[]);
 }
 
-/// Takes bytes that stay borrowed until too few are left.
+/// Takes two of five bytes at a time, and keeps them borrowed. The third take is refused.
 fn takes<'b, R: Reader + 'b>(rt: &impl Abort, reader: R) {
     let mut memory = [OLD; 8];
     let mut source = IOReader::new(reader, &mut memory);
