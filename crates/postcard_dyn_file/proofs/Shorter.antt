@@ -2,7 +2,7 @@
 use Rattle.std.proofs.Common.{◌≡◌, ℕ, ◌+◌, ◌<◌, ◌≤◌, List, ◌++◌, length, ap, arith, length-append, inl, inr}
 use Rattle.postcard_dyn_file.specs.declared.token.Token.{Token}
 use Rattle.postcard_dyn_file.specs.Steps.{Steps, none, more}
-use Rattle.postcard_dyn_file.specs.Lexical.{CommentStep, IsComment, IsLifetime, IsLiteral, IsOtherAt, IsGap, IsTokenAt}
+use Rattle.postcard_dyn_file.specs.Lexical.{CommentStep, IsBlockComment, IsLifetime, IsLiteral, IsOtherAt, IsGap, IsTokenAt}
 use Rattle.postcard_dyn_file.specs.Kept.{HasBracket, EndsBefore}
 use Rattle.postcard_dyn_file.proofs.Fronts.{letters_front}
 
@@ -22,7 +22,7 @@ comment_steps start end (more {s} {t} before step) =
     let next = comment_step s t step.0 in
     omega (arith, first, next)
 
-comment_shorter : (text rest : List ℕ) → IsComment text rest → length rest < length text
+comment_shorter : (text rest : List ℕ) → IsBlockComment text rest → length rest < length text
 comment_shorter text rest (inner, e, (last, steps, end)) =
     let h = ap length e in
     let within = comment_steps (1, inner) last steps in

@@ -19,12 +19,12 @@ CommentStep s t =
     ⊎ ((b : ℕ) × (s.0 ≡ t.0) × (s.1 ≡ b ∷ t.1) × (Begins 42 47 s.1 → ⊥) × (Begins 47 42 s.1 → ⊥)))
 
 -- The text begins with a comment in `/*` and `*/`, and `rest` is left.
-abbrev pub IsComment : List ℕ → List ℕ → Type 0
-IsComment text rest = (inner : List ℕ) × (text ≡ 47 ∷ 42 ∷ inner) × StepsToZero CommentStep (1, inner) rest
+abbrev pub IsBlockComment : List ℕ → List ℕ → Type 0
+IsBlockComment text rest = (inner : List ℕ) × (text ≡ 47 ∷ 42 ∷ inner) × StepsToZero CommentStep (1, inner) rest
 
 -- The text begins with `//` and the letters of its line, and `rest` is left: nothing, or a new line.
-abbrev pub IsLine : List ℕ → List ℕ → Type 0
-IsLine text rest = (line : List ℕ) × (text ≡ 47 ∷ 47 ∷ line ++ rest) × ((k : ℕ) → k < length line → slice_index line k ≢ 10)
+abbrev pub IsLineComment : List ℕ → List ℕ → Type 0
+IsLineComment text rest = (line : List ℕ) × (text ≡ 47 ∷ 47 ∷ line ++ rest) × ((k : ℕ) → k < length line → slice_index line k ≢ 10)
     × ((rest ≡ []) ⊎ ((after : List ℕ) × (rest ≡ 10 ∷ after)))
 
 -- The text begins with a letter of a literal: a byte, or a `\` and a byte.
@@ -58,7 +58,7 @@ IsBlank text rest = (b : ℕ) × (is_ascii_whitespace b ≡ true) × (text ≡ b
 
 -- The text begins with what stands between tokens, and `rest` is left.
 unfoldable pub IsGap : List ℕ → List ℕ → Type 0
-IsGap text rest = IsBlank text rest ⊎ (IsLine text rest ⊎ (IsLifetime text rest ⊎ IsComment text rest))
+IsGap text rest = IsBlank text rest ⊎ (IsLineComment text rest ⊎ (IsLifetime text rest ⊎ IsBlockComment text rest))
 
 -- The text begins with this byte of ASCII, which is the token, and `rest` is left.
 abbrev pub IsSignAt : List ℕ → List ℕ → List ℕ → Type 0

@@ -20,10 +20,10 @@ pub use Rattle.postcard_dyn_file.specs.Items.{AreDeclarations, BeginsItem, Decla
 pub use Rattle.postcard_dyn_file.specs.Items.{IsItemEnd, IsKeyword, NamesDiffer, ReadsItem}
 pub use Rattle.postcard_dyn_file.specs.Kept.{AreKept, EndsBefore, HasBracket, IsAttribute}
 pub use Rattle.postcard_dyn_file.specs.Kept.{IsEmptyAngle, IsLimit, IsPassed, IsScope, KeepStep}
-pub use Rattle.postcard_dyn_file.specs.Lexical.{Begins, CommentStep, HasDepth, IsBlank, IsComment}
-pub use Rattle.postcard_dyn_file.specs.Lexical.{IsGap, IsLetter, IsLifetime, IsLine, IsLiteral}
-pub use Rattle.postcard_dyn_file.specs.Lexical.{IsOtherAt, IsQuoted, IsRead, IsSignAt, IsTokenAt}
-pub use Rattle.postcard_dyn_file.specs.Lexical.{IsWordFront, ReadStep}
+pub use Rattle.postcard_dyn_file.specs.Lexical.{Begins, CommentStep, HasDepth, IsBlank}
+pub use Rattle.postcard_dyn_file.specs.Lexical.{IsBlockComment, IsGap, IsLetter, IsLifetime}
+pub use Rattle.postcard_dyn_file.specs.Lexical.{IsLineComment, IsLiteral, IsOtherAt, IsQuoted}
+pub use Rattle.postcard_dyn_file.specs.Lexical.{IsRead, IsSignAt, IsTokenAt, IsWordFront, ReadStep}
 pub use Rattle.postcard_dyn_file.specs.Openings.{BeginsType, IsOpened, Opens}
 pub use Rattle.postcard_dyn_file.specs.Places.{IsLineStart, IsPlace}
 pub use Rattle.postcard_dyn_file.specs.Printed.{file_error_text, file_problem_text, is_of_type}

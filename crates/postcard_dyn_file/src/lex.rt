@@ -5,10 +5,10 @@
 
 ghost use Rattle.std.specs.Prelude.{◌≡◌, ℕ, ◌<◌, List, ◌∷◌, length, false, IfOk, IfErr, IfSome};
 ghost use Rattle.std.specs.Prelude.{IfNone};
-ghost use Rattle.postcard_dyn_file.specs.{Begins, CommentStep, HasDepth, IsBlank, IsComment, IsGap};
-ghost use Rattle.postcard_dyn_file.specs.{IsLetter, IsLifetime, IsLine, IsLiteral, IsOtherAt};
-ghost use Rattle.postcard_dyn_file.specs.{IsQuoted, IsRead, IsSignAt, IsTokenAt, IsWordFront};
-ghost use Rattle.postcard_dyn_file.specs.{ReadStep, is_of_type, is_of_word_byte};
+ghost use Rattle.postcard_dyn_file.specs.{Begins, CommentStep, HasDepth, IsBlank, IsBlockComment};
+ghost use Rattle.postcard_dyn_file.specs.{IsGap, IsLetter, IsLifetime, IsLineComment, IsLiteral};
+ghost use Rattle.postcard_dyn_file.specs.{IsOtherAt, IsQuoted, IsRead, IsSignAt, IsTokenAt};
+ghost use Rattle.postcard_dyn_file.specs.{IsWordFront, ReadStep, is_of_type, is_of_word_byte};
 
 use crate::error::{FileProblem, ProblemAt, out_of_memory};
 use crate::token::Token;
@@ -48,7 +48,8 @@ fn closed(tokens: Vec<Token>, depth: usize) -> Result<Vec<Token>, ProblemAt>
     Ok(tokens)
 }
 
-/// Returns the place of the last token with fewer brackets around it than these, or 0 if there is none.
+/// Returns the place of the last token with fewer brackets around it than these, or 0 if there is
+/// none.
 fn last_within(tokens: &[Token], depth: usize) -> usize {
     let mut left = 0;
     for token in tokens {
@@ -111,8 +112,8 @@ fn depths(word: &[u8], depth: usize) -> Option<(usize, usize)>
     }
 }
 
-/// A gap is a blank, a comment, or a lifetime and the comma after it. Fails with `CommentOpen` at a
-/// comment that isn't closed.
+/// A gap is a blank, a comment of either kind, or a lifetime and the comma after it, if there is
+/// one. Fails with `CommentOpen` at a block comment that isn't closed.
 #[tactic(auto, unfolding(crate::specs::Lexical::IsGap))]
 fn after_gap(text: &[u8]) -> Result<Option<&[u8]>, ProblemAt>
     ensures found { IfOk result (λ found. IfSome found (λ rest. IsGap text.now rest.now)) }
@@ -122,13 +123,13 @@ fn after_gap(text: &[u8]) -> Result<Option<&[u8]>, ProblemAt>
     if let Some(rest) = after_blank(text) {
         return Ok(Some(rest));
     }
-    if let Some(rest) = after_line(text) {
+    if let Some(rest) = after_line_comment(text) {
         return Ok(Some(rest));
     }
     if let Some(rest) = after_lifetime(text) {
         return Ok(Some(rest));
     }
-    after_comment(text)
+    after_block_comment(text)
 }
 
 fn after_blank(text: &[u8]) -> Option<&[u8]>
@@ -162,8 +163,8 @@ fn after_two(text: &[u8], first: u8, second: u8) -> Option<&[u8]>
 }
 
 /// The text after a comment that begins with `//` is nothing, or begins with the end of its line.
-fn after_line(text: &[u8]) -> Option<&[u8]>
-    ensures found { IfSome result (λ rest. IsLine text.now rest.now) }
+fn after_line_comment(text: &[u8]) -> Option<&[u8]>
+    ensures found { IfSome result (λ rest. IsLineComment text.now rest.now) }
     ensures none { IfNone result (Begins 47 47 text.now → ⊥) }
 {
     let Some(line) = after_two(text, b'/', b'/') else {
@@ -178,8 +179,8 @@ fn after_line(text: &[u8]) -> Option<&[u8]>
 }
 
 /// A comment in `/*` and `*/` may have others in it. Fails with `CommentOpen` if it isn't closed.
-fn after_comment(text: &[u8]) -> Result<Option<&[u8]>, ProblemAt>
-    ensures found { IfOk result (λ found. IfSome found (λ rest. IsComment text.now rest.now)) }
+fn after_block_comment(text: &[u8]) -> Result<Option<&[u8]>, ProblemAt>
+    ensures found { IfOk result (λ found. IfSome found (λ rest. IsBlockComment text.now rest.now)) }
     ensures none { IfOk result (λ found. IfNone found (Begins 47 42 text.now → ⊥)) }
     ensures other { IfErr result (λ e. is_of_type e.problem ≡ false) }
 {

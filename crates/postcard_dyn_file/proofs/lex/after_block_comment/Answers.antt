@@ -1,6 +1,6 @@
 use Rattle.std.proofs.Common.{rules, arith}
 use Rattle.postcard_dyn_file.specs.Steps.{none, more}
-use Rattle.postcard_dyn_file.proofs.lex.after_comment.Goals as goal
+use Rattle.postcard_dyn_file.proofs.lex.after_block_comment.Goals as goal
 
 pub loop-init : goal.loop-init
 loop-init c = (c.in-Some.inner.now, search rules, none)
