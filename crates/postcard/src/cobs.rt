@@ -39,6 +39,12 @@ fn framed<T: Serialize, B: Storage + Drop>(value: &T, storage: B) -> Result<<B a
 ///
 /// If `B` is at most `usize::MAX - 2`, fails with `SerializeBufferFull` if and only if the frame is
 /// longer than `B` bytes, but for the [exceptions](crate#errors-of-encoding).
+///
+/// # Examples
+///
+/// ```rust
+/// let fixed = to_vec_cobs::<_, 16>(value).expect(rt, "the frame has room");
+/// ```
 #[tactic(auto, using(crate::specs::Lemmas::frame_decodes))]
 pub fn to_vec_cobs<T: Serialize, const B: usize>(value: &T) -> Result<ArrayVec<u8, B>>
     ensures gives { IfOk result (λ vec. vec.items ≡ made (encoding T.shape value.now)) }
@@ -64,6 +70,14 @@ pub fn to_vec_cobs<T: Serialize, const B: usize>(value: &T) -> Result<ArrayVec<u
 /// Fails with `SerializeBufferFull` if and only if the frame is longer than `buf`, but for the
 /// [exceptions](crate#errors-of-encoding). After a failure the content of the buffer is
 /// unspecified.
+///
+/// # Examples
+///
+/// ```rust
+/// let mut buffer = [0; 16];
+/// let frame = to_slice_cobs(&[0x01u8, 0x00, 0x20, 0x30].as_slice(), &mut buffer)?;
+/// assert_eq!(rt; &*frame, [0x03, 0x04, 0x01, 0x03, 0x20, 0x30, 0x00].as_slice());
+/// ```
 pub fn to_slice_cobs<'a, T: Serialize>(value: &T, buf: &'a mut [u8]) -> Result<&'a mut [u8]>
     ensures* writes_back { sem 𝓛 (LendsSoOk (Array u8 0) (Array u8 0) buf.entry result
         (λ all front. all ≡ front
@@ -130,6 +144,12 @@ fn write_frame<'a, T: Serialize>(value: &T, buf: &'a mut [u8]) -> Attempt<'a>
 
 /// Does what [`to_slice_cobs`] does, with the same errors, and returns the number of the frame's
 /// bytes, for callers that keep the buffer.
+///
+/// # Examples
+///
+/// ```rust
+/// let written = fill_slice_cobs(value, &mut buffer[..room]);
+/// ```
 pub fn fill_slice_cobs<T: Serialize>(value: &T, buf: &mut [u8]) -> Result<usize>
     ensures count_is_length { IfOk result
         (λ count. count ≡ length (made (encoding T.shape value.now))) }
@@ -158,6 +178,12 @@ pub fn fill_slice_cobs<T: Serialize>(value: &T, buf: &mut [u8]) -> Result<usize>
 ///
 /// Fails with `SerializeBufferFull`, and only if an allocation fails, but for the
 /// [exceptions](crate#errors-of-encoding).
+///
+/// # Examples
+///
+/// ```rust
+/// let grown = to_allocvec_cobs(rt.alloc(), value).expect(rt, "a vector grows");
+/// ```
 #[tactic(auto, using(crate::specs::Lemmas::frame_decodes))]
 pub fn to_allocvec_cobs<T: Serialize>(alloc: Global, value: &T) -> Result<Vec<u8>>
     ensures { EncodesFrame T.shape value.now (λ vec. vec.items) result }
@@ -166,6 +192,12 @@ pub fn to_allocvec_cobs<T: Serialize>(alloc: Global, value: &T) -> Result<Vec<u8
 }
 
 /// [`to_allocvec_cobs`] under the name that the Rust crate has for `std`.
+///
+/// # Examples
+///
+/// ```rust
+/// let grown = to_stdvec_cobs(rt.alloc(), value).expect(rt, "a vector grows");
+/// ```
 pub fn to_stdvec_cobs<T: Serialize>(alloc: Global, value: &T) -> Result<Vec<u8>>
     ensures { EncodesFrame T.shape value.now (λ vec. vec.items) result }
 {
@@ -177,6 +209,12 @@ pub fn to_stdvec_cobs<T: Serialize>(alloc: Global, value: &T) -> Result<Vec<u8>>
 /// # Errors
 ///
 /// Fails as [`to_allocvec_cobs`], and drops the vector then.
+///
+/// # Examples
+///
+/// ```rust
+/// let mut two = to_allocvec_cobs_after(&5u8, frame.to_vec(rt.alloc())?)?;
+/// ```
 #[tactic(auto, using(crate::specs::Lemmas::frame_after_decodes))]
 pub fn to_allocvec_cobs_after<T: Serialize>(value: &T, vec: Vec<u8>) -> Result<Vec<u8>>
     ensures gives { IfOk result

@@ -26,6 +26,16 @@ use std::alloc::Global;
 /// Fails as [`take_from_bytes`](crate::take_from_bytes), and with `DeserializeUnexpectedEnd` also
 /// if the reader fails or the scratch is too short. After a failure the reader and the scratch are
 /// dropped.
+///
+/// # Examples
+///
+/// ```rust
+/// let records = [0x01, 0x61, 0xAC, 0x02, 0x99];
+/// let mut scratch = [0; 8];
+/// let (name, from) = from_io::<&str, _>(rt.alloc(), (records.as_slice(), &mut scratch))?;
+/// let (number, (reader, left)) = from_io::<u32, _>(rt.alloc(), from)?;
+/// assert_eq!(rt; (name, number), ("a", 300));
+/// ```
 pub fn from_io<'a, T: Deserialize<'a>, R: Reader + 'a>(
     alloc: Global,
     from: (R, &'a mut [u8]),

@@ -17,6 +17,13 @@ use postcard_wire::Result;
 ///
 /// Fails with `SerializeBufferFull` if and only if the number exceeds `usize::MAX`, but for the
 /// [exceptions](crate#errors-of-encoding).
+///
+/// # Examples
+///
+/// ```rust
+/// let tuple = (1u8, 10u32, "Hello!");
+/// assert_eq!(rt; serialized_size(&tuple), Ok(9));
+/// ```
 pub fn serialized_size<T: Serialize>(value: &T) -> Result<usize>
     ensures gives { IfOk result (λ count. count ≡ length (encoding T.shape value.now)) }
     ensures fits_iff { IsWilling T.shape value.now

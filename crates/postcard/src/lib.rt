@@ -1,5 +1,13 @@
 //! Postcard: encodes values compactly in binary, and decodes them.
 //!
+//! ```rust
+//! let mut buffer = [0; 16];
+//! let used = to_slice(&[1u32, 300].as_slice(), &mut buffer)?;
+//! assert_eq!(rt; &*used, [0x02, 0x01, 0xAC, 0x02].as_slice());
+//! let (text, rest) = take_from_bytes::<&str>(rt.alloc(), &bytes)?;
+//! let frame = to_slice_cobs(&[0x01u8, 0x00, 0x20, 0x30].as_slice(), &mut buffer)?;
+//! ```
+//!
 //! This is the crate that programs use. Its contracts say what each call promises from end to end:
 //! values have trees, bytes spell trees, and the canonical encoding of a tree is its one shortest
 //! spelling.

@@ -20,6 +20,14 @@ use postcard_wire::{Error, Result};
 /// Fails with `SerializeBufferFull` if and only if the encoding is longer than `buf`, but for the
 /// [exceptions](crate#errors-of-encoding). The buffer then holds a beginning of the encoding, and
 /// after it the old bytes; if the value refuses itself, its content is unspecified.
+///
+/// # Examples
+///
+/// ```rust
+/// let mut buffer = [0; 16];
+/// let used = to_slice(&[1u32, 300].as_slice(), &mut buffer)?;
+/// assert_eq!(rt; &*used, [0x02, 0x01, 0xAC, 0x02].as_slice());
+/// ```
 pub fn to_slice<'a, T: Serialize>(value: &T, buf: &'a mut [u8]) -> Result<&'a mut [u8]>
     ensures* writes_back { sem 𝓛 (LendsSoOk (Array u8 0) (Array u8 0) buf.entry result
         (λ all front. all ≡ front ++ drop (length (encoding T.shape value.now)) buf.old)
@@ -41,6 +49,12 @@ pub fn to_slice<'a, T: Serialize>(value: &T, buf: &'a mut [u8]) -> Result<&'a mu
 
 /// Does what [`to_slice`] does, with the same errors, for callers that keep the buffer, and returns
 /// the number of bytes written.
+///
+/// # Examples
+///
+/// ```rust
+/// assert_eq!(rt; fill_slice(&[1u32, 300].as_slice(), &mut buffer), Ok(4));
+/// ```
 pub fn fill_slice<T: Serialize>(value: &T, buf: &mut [u8]) -> Result<usize>
     ensures { FillsSlice T.shape value.now buf.old result buf.new }
 {

@@ -24,6 +24,13 @@ use std::alloc::Global;
 ///
 /// Fails with `SerializeBufferFull` if the flavor refuses the index, and otherwise as the
 /// `serialize` of the content does. What was written before the error stays in the flavor.
+///
+/// # Examples
+///
+/// ```rust
+/// Step::Stay => write_variant(self, 0, &(), serializer),
+/// Step::Move { x, y, speed } => write_variant(self, 1, &(x, y, speed), serializer),
+/// ```
 pub fn write_variant<E: Shaped, T: Serialize, F: Flavor>(
     value: &E,
     index: u32,

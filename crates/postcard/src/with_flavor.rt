@@ -21,6 +21,12 @@ use std::io::Write;
 /// Fails with `SerializeBufferFull` if the flavor refuses bytes or can't end, and never if it has
 /// room for the encoding, but for the [exceptions](crate#errors-of-encoding). After a failure the
 /// flavor is dropped.
+///
+/// # Examples
+///
+/// ```rust
+/// assert_eq!(rt; serialize_with_flavor(&false, Size::default()), Ok(1));
+/// ```
 pub fn serialize_with_flavor<T: Serialize, S: Flavor<Output = O> + Drop, O>(
     value: &T,
     flavor: S,
@@ -48,6 +54,13 @@ pub fn serialize_with_flavor<T: Serialize, S: Flavor<Output = O> + Drop, O>(
 ///
 /// Fails with `SerializeBufferFull` if and only if the encoding has more than `B` bytes, but for
 /// the [exceptions](crate#errors-of-encoding).
+///
+/// # Examples
+///
+/// ```rust
+/// let tuple = (1u8, 10u32, "Hello!");
+/// let fixed = to_vec::<_, 9>(&tuple)?;
+/// ```
 pub fn to_vec<T: Serialize, const B: usize>(value: &T) -> Result<ArrayVec<u8, B>>
     ensures { Encodes T.shape value.now (λ vec. vec.items ≡ encoding T.shape value.now)
         (length (encoding T.shape value.now) ≤ B) result }
@@ -61,6 +74,13 @@ pub fn to_vec<T: Serialize, const B: usize>(value: &T) -> Result<ArrayVec<u8, B>
 ///
 /// Fails with `SerializeBufferFull`, and only if an allocation fails, but for the
 /// [exceptions](crate#errors-of-encoding).
+///
+/// # Examples
+///
+/// ```rust
+/// let tuple = (1u8, 10u32, "Hello!");
+/// let longer = to_extend(&true, to_allocvec(rt.alloc(), &tuple)?)?;
+/// ```
 pub fn to_allocvec<T: Serialize>(alloc: Global, value: &T) -> Result<Vec<u8>>
     ensures { EncodesGrowing T.shape value.now (λ vec. vec.items ≡ encoding T.shape value.now)
         result }
@@ -69,6 +89,13 @@ pub fn to_allocvec<T: Serialize>(alloc: Global, value: &T) -> Result<Vec<u8>>
 }
 
 /// [`to_allocvec`] under the name that the Rust crate has for `std`.
+///
+/// # Examples
+///
+/// ```rust
+/// let tuple = (1u8, 10u32, "Hello!");
+/// let growing = to_stdvec(rt.alloc(), &tuple)?;
+/// ```
 pub fn to_stdvec<T: Serialize>(alloc: Global, value: &T) -> Result<Vec<u8>>
     ensures { EncodesGrowing T.shape value.now (λ vec. vec.items ≡ encoding T.shape value.now)
         result }
@@ -82,6 +109,13 @@ pub fn to_stdvec<T: Serialize>(alloc: Global, value: &T) -> Result<Vec<u8>>
 ///
 /// Fails with `SerializeBufferFull` if the target refuses bytes, but for the
 /// [exceptions](crate#errors-of-encoding). After a failure the target is dropped.
+///
+/// # Examples
+///
+/// ```rust
+/// let tuple = (1u8, 10u32, "Hello!");
+/// let longer = to_extend(&true, to_allocvec(rt.alloc(), &tuple)?)?;
+/// ```
 pub fn to_extend<T: Serialize, W: ExtendBytes + Drop>(value: &T, writer: W) -> Result<W>
     ensures appends { IfOk result
         (λ target. W.content target ≡ W.content writer ++ encoding T.shape value.now) }
@@ -98,6 +132,13 @@ pub fn to_extend<T: Serialize, W: ExtendBytes + Drop>(value: &T, writer: W) -> R
 /// Fails with `SerializeBufferFull` if the writer or its flush fails, but for the
 /// [exceptions](crate#errors-of-encoding). After a failure the writer is dropped, and may have been
 /// given some of the bytes.
+///
+/// # Examples
+///
+/// ```rust
+/// let tuple = (1u8, 10u32, "Hello!");
+/// let written = to_io(&tuple, Vec::new(rt.alloc()))?;
+/// ```
 pub fn to_io<T: Serialize, W: Write + Drop>(value: &T, writer: W) -> Result<W>
     ensures appends { IfOk result (λ output. Appends (W.contents writer) (W.contents output)
         (encoding T.shape value.now)) }

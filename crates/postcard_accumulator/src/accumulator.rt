@@ -186,6 +186,20 @@ impl<const N: usize> CobsAccumulator<N> {
 
     /// Takes in a piece of a stream up to the end of a frame, and decodes that frame's value. Bytes
     /// after the value in a frame's data are ignored.
+    ///
+    /// # Examples
+    ///
+    /// ```rust
+    /// left = match accumulator.feed::<(u8, u8)>(rt.alloc(), left) {
+    ///     FeedResult::Consumed => break,
+    ///     FeedResult::OverFull(rest) => rest, // a frame of more than 16 bytes
+    ///     FeedResult::DeserError(rest) => rest, // a damaged frame
+    ///     FeedResult::Success { value, remaining } => {
+    ///         readings.push(value)?;
+    ///         remaining
+    ///     }
+    /// };
+    /// ```
     pub fn feed<'a, T: DeserializeOwned>(
         &mut self,
         alloc: Global,

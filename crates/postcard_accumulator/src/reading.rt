@@ -85,6 +85,12 @@ fn feed_all<T: DeserializeOwned, const N: usize>(
 ///
 /// `ReadFailed` is never returned for a steady reader. At `Limit` at least `reads` bytes were read.
 /// What is said here of the bytes read is promised of a reader that knows its bytes.
+///
+/// # Examples
+///
+/// ```rust
+/// let first = read_frames(rt.alloc(), &mut reader, &mut chunk, 5, acc, out);
+/// ```
 pub fn read_frames<R: Reader, T: DeserializeOwned, const N: usize>(
     alloc: Global,
     reader: &mut R,

@@ -56,6 +56,12 @@ pub fn take_from_bytes<'a, T: Deserialize<'a>, W: Width, I: Implementation<W>>(
 
 /// Decodes a value as [`take_from_bytes`] does, with the same errors. Bytes after the checksum are
 /// ignored.
+///
+/// # Examples
+///
+/// ```rust
+/// let (sensor, tenths): (u8, u32) = from_bytes_crc32(rt.alloc(), sent, crc.digest())?;
+/// ```
 pub fn from_bytes<'a, T: Deserialize<'a>, W: Width, I: Implementation<W>>(
     alloc: Global,
     bytes: &'a [u8],
@@ -83,6 +89,12 @@ pub fn from_bytes<'a, T: Deserialize<'a>, W: Width, I: Implementation<W>>(
 /// # Errors
 ///
 /// Fails as [`take_from_bytes`], and with `DeserializeBadEncoding` if bytes follow the checksum.
+///
+/// # Examples
+///
+/// ```rust
+/// let value: u8 = from_bytes_whole(rt.alloc(), &[0x00, 0x78, 0xf0], sdlc.digest())?;
+/// ```
 pub fn from_bytes_whole<'a, T: Deserialize<'a>, W: Width, I: Implementation<W>>(
     alloc: Global,
     bytes: &'a [u8],

@@ -59,6 +59,14 @@ pub fn serialize_with_checksum<
 /// Fails with `SerializeBufferFull` if and only if `buf` has no room for the encoding and the
 /// checksum, but for the [exceptions](crate#errors-of-encoding). After a failure the content of the
 /// buffer is unspecified.
+///
+/// # Examples
+///
+/// ```rust
+/// let crc: Crc<u32> = Crc::new(&CRC_32_ISCSI);
+/// let mut buffer = [0; 16];
+/// let sent = to_slice_crc32(&(7u8, 300u32), &mut buffer, crc.digest())?;
+/// ```
 pub fn to_slice<'a, T: Serialize, W: Width, I: Implementation<W>>(
     value: &T,
     buf: &'a mut [u8],

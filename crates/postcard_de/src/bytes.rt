@@ -18,6 +18,14 @@ use std::alloc::Global;
 /// Fails with the error of the first part that can't be read: `DeserializeUnexpectedEnd` if the
 /// bytes end, an error of `Deserializer`'s calls, or `SerdeDeCustom` if a type refuses what was
 /// read. Fails with `OutOfMemory` if an allocation fails, and only for a type that grows.
+///
+/// # Examples
+///
+/// ```rust
+/// let bytes = [0x03, 0x48, 0x69, 0x21, 0x07];
+/// let (text, rest) = take_from_bytes::<&str>(rt.alloc(), &bytes)?;
+/// assert_eq!(rt; text, "Hi!");
+/// ```
 #[inline(always)]
 pub fn take_from_bytes<'a, T: Deserialize<'a>>(
     alloc: Global,
@@ -33,6 +41,12 @@ pub fn take_from_bytes<'a, T: Deserialize<'a>>(
 
 /// Decodes a value as [`take_from_bytes`] does, with the same errors. Bytes after that front are
 /// ignored.
+///
+/// # Examples
+///
+/// ```rust
+/// let seven: u8 = from_bytes(rt.alloc(), rest)?;
+/// ```
 pub fn from_bytes<'a, T: Deserialize<'a>>(alloc: Global, bytes: &'a [u8]) -> Result<T>
     ensures { ReadsFromBytes T.shape bytes.now result }
 {

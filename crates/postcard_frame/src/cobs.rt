@@ -27,6 +27,12 @@ use std::alloc::Global;
 /// Fails with `DeserializeBadEncoding` if and only if the frame has no data: it is empty, or a
 /// group runs past its end. Otherwise fails as [`from_bytes`] of the frame's data. The bytes before
 /// the first zero are unspecified then.
+///
+/// # Examples
+///
+/// ```rust
+/// let five: u8 = from_bytes_cobs(rt.alloc(), rest)?;
+/// ```
 pub fn from_bytes_cobs<'a, T: Deserialize<'a>>(alloc: Global, s: &'a mut [u8]) -> Result<T>
     ensures* writes_back { sem 𝓛 (follows_so (Array u8 0) (Array u8 0) s.entry.ghost_name none
         (λ _ _. ⊤) (KeepsFromZero s.old)) }
@@ -43,6 +49,13 @@ pub fn from_bytes_cobs<'a, T: Deserialize<'a>>(alloc: Global, s: &'a mut [u8]) -
 ///
 /// Once the loan has ended, the buffer holds the zero as it was, and then what the caller made of
 /// the bytes returned (`writes_back`).
+///
+/// # Examples
+///
+/// ```rust
+/// let (list, rest) = take_from_bytes_cobs::<&[u8]>(rt.alloc(), &mut two)?;
+/// let five: u8 = from_bytes_cobs(rt.alloc(), rest)?;
+/// ```
 pub fn take_from_bytes_cobs<'a, T: Deserialize<'a>>(
     alloc: Global,
     s: &'a mut [u8],

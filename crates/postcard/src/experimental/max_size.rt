@@ -11,6 +11,12 @@ use postcard_wire::Result;
 
 /// Does what [`fill_slice`](crate::fill_slice) does. If `T::postcard_max_size()` is `Some(n)`, a
 /// buffer of at least `n` bytes is enough for every value that doesn't refuse itself.
+///
+/// # Examples
+///
+/// ```rust
+/// assert_eq!(rt; fill_max_size(&Choice::Narrow(7), &mut [0; 4]), Ok(2));
+/// ```
 pub fn fill_max_size<T: Serialize + MaxSize>(value: &T, buffer: &mut [u8]) -> Result<usize>
     ensures filled { FillsSlice T.shape value.now buffer.old result buffer.new }
     ensures enough { IsWilling T.shape value.now

@@ -25,6 +25,13 @@ use std::alloc::Global;
 ///
 /// Fails with `DeserializeBadEncoding` if the frame has no data, and otherwise as
 /// [`from_bytes_whole`] of the frame's data. The bytes before the first zero are unspecified then.
+///
+/// # Examples
+///
+/// ```rust
+/// let mut frame = [0x01, 0x03, 0x78, 0xf0, 0x00];
+/// let value: u8 = from_bytes_cobs(rt.alloc(), &mut frame, sdlc.digest())?;
+/// ```
 pub fn from_bytes_cobs<'a, T: Deserialize<'a>, W: Width, I: Implementation<W>>(
     alloc: Global,
     s: &'a mut [u8],

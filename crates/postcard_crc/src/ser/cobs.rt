@@ -68,6 +68,12 @@ pub fn to_slice_cobs<'a, T: Serialize, W: Width, I: Implementation<W>>(
 
 /// Encodes a value and its checksum as a frame with its zero into a new `Vec`. Fails as
 /// [`to_allocvec`](crate::ser::to_allocvec). The Rust crate has no such call.
+///
+/// # Examples
+///
+/// ```rust
+/// let frame = to_allocvec_cobs(rt.alloc(), &1u8, maxim.digest())?;
+/// ```
 pub fn to_allocvec_cobs<T: Serialize, W: Width, I: Implementation<W>>(
     alloc: Global,
     value: &T,
