@@ -214,7 +214,7 @@ enum {
     POSTCARD_OVERSIZED = 2, /* a frame has no room; it is skipped */
     POSTCARD_DAMAGED = 3    /* a frame ended that is no COBS frame */
 };
-/* Takes in a piece up to the end of a frame. Feed the rest of it, from piece + *taken on, next. */
+/* Takes in a piece up to the end of a frame. Feed the rest of it, from piece + *taken on, next. Without a frame *count is 0. */
 uint32_t postcard_feed(postcard_accumulator *a, const void *piece, size_t size, size_t *taken, size_t *count);
 
 #ifdef __cplusplus

@@ -12,3 +12,4 @@ pub mod Divisors
 pub mod PowerLemmas
 pub mod PrimeOrder
 mod Orders
+mod ListedLemmas

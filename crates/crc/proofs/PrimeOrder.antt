@@ -13,7 +13,7 @@ use Rattle.crc.proofs.PolynomialLemmas.{same, back, chain, shifted, one_remainde
 use Rattle.crc.proofs.PowerLemmas.{power_below, power_is}
 use Rattle.crc.proofs.Divisors.{multiple, common_divisor, IsPrime, none_left}
 
-both : (x y : Bool) → (x && y) ≡ true → (x ≡ true) × (y ≡ true)
+pub both : (x y : Bool) → (x && y) ≡ true → (x ≡ true) × (y ≡ true)
 both true y e = (refl, e)
 both false y e = absurd (true≢false (sym e))
 

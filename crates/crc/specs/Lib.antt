@@ -8,6 +8,7 @@ pub mod Digest
 pub mod Damage
 pub mod Order
 pub mod Serving
+pub mod Listed
 -- The words that clauses of this crate cite, under one path.
 pub use Rattle.std.specs.Prelude.{List, ℕ}
 pub use Rattle.crc.specs.Algorithm.{parameters}
@@ -15,6 +16,7 @@ pub use Rattle.crc.specs.Checked.{AreBytes, IsChecked}
 pub use Rattle.crc.specs.Crc.{IsCrc, IsSound, IsValid, Parameters, generator, in_order, message}
 pub use Rattle.crc.specs.Damage.{AreTwo, HasOrderFrom, HasParity, IsBurst, IsOddDamage}
 pub use Rattle.crc.specs.Digest.{Progress, Took}
+pub use Rattle.crc.specs.Listed.{IsListed}
 pub use Rattle.crc.specs.Order.{product, shows_order}
 pub use Rattle.crc.specs.Polynomial.{Congruent}
 pub use Rattle.crc.specs.Register.{AreEntries, IsSumFor, Takes, feedback, first_byte, leaving, next}

@@ -7,7 +7,7 @@
 //! the message. The others are marked as not reflected.
 
 ghost use Rattle.std.specs.Prelude.{◌-◌, ◌^◌};
-ghost use Rattle.crc.specs.{HasOrderOf};
+ghost use Rattle.crc.specs.{HasOrderOf, IsListed};
 
 use crate::algorithm::Algorithm;
 
@@ -210,4 +210,24 @@ pub fn orders()
     ensures crc_64_xz { HasOrderOf 8589606914 CRC_64_XZ }
     ensures crc_64_ecma_182 { HasOrderOf 8589606914 CRC_64_ECMA_182 }
     ensures crc_82_darc { HasOrderOf 273 CRC_82_DARC }
+{}
+
+/// The fields `check` and `residue` of each entry are what the catalogue means by these words:
+/// computed from the parameters, and for `residue` the same after every message with its checksum.
+pub fn listed()
+    ensures crc_8_smbus { IsListed CRC_8_SMBUS }
+    ensures crc_8_maxim_dow { IsListed CRC_8_MAXIM_DOW }
+    ensures crc_16_ibm_sdlc { IsListed CRC_16_IBM_SDLC }
+    ensures crc_16_xmodem { IsListed CRC_16_XMODEM }
+    ensures crc_16_modbus { IsListed CRC_16_MODBUS }
+    ensures crc_16_usb { IsListed CRC_16_USB }
+    ensures crc_16_kermit { IsListed CRC_16_KERMIT }
+    ensures crc_24_openpgp { IsListed CRC_24_OPENPGP }
+    ensures crc_32_iso_hdlc { IsListed CRC_32_ISO_HDLC }
+    ensures crc_32_iscsi { IsListed CRC_32_ISCSI }
+    ensures crc_32_bzip2 { IsListed CRC_32_BZIP2 }
+    ensures crc_32_mpeg_2 { IsListed CRC_32_MPEG_2 }
+    ensures crc_64_xz { IsListed CRC_64_XZ }
+    ensures crc_64_ecma_182 { IsListed CRC_64_ECMA_182 }
+    ensures crc_82_darc { IsListed CRC_82_DARC }
 {}

@@ -1,5 +1,5 @@
 -- What one feed of an accumulator of C returns and leaves, in the words of `postcard_accumulator`.
-use Rattle.std.specs.Prelude.{◌≡◌, ℕ, ◌≤◌, ◌⊎◌, List, [], ◌++◌, length, take, drop, IsTrue}
+use Rattle.std.specs.Prelude.{◌≡◌, ◌≢◌, ℕ, ◌≤◌, ◌⊎◌, List, [], ◌++◌, length, take, drop, IsTrue}
 use Rattle.postcard_cobs.specs.Groups.{NoZero, Groups, EndsFrame}
 use Rattle.postcard_accumulator.specs.State.{State, holding, skipping, state_of}
 use Rattle.postcard_accumulator.specs.Feeding.{EndsFitting, Overflows, IsHeld}
@@ -36,12 +36,13 @@ abbrev pub state : Accumulator → State
 state a = state_of a.skipping (take a.held a.buffer.now)
 
 -- A feed of the piece p turned the accumulator `old` into `new`, and took `taken` bytes of the piece. At
--- answer 1 the data of the frame, of `size` bytes, is at the front of the buffer.
+-- answer 1 the data of the frame, of `size` bytes, is at the front of the buffer. At every other answer `size` is 0.
 pub record Feeds (old new : Accumulator) (p : List ℕ) (answer taken size : ℕ) : Type 0 where
   pub same_buffer : new.buffer.ghost_name ≡ old.buffer.ghost_name
   pub stands : Stands new
   pub fed : IsFedRaw (length old.buffer.now) (state old) p answer (drop taken p) (take size new.buffer.now) (state new)
   pub within : (taken ≤ length p) × (size ≤ length new.buffer.now)
+  pub no_data : answer ≢ 1 → size ≡ 0
 
 -- The outcome of a piece p for a buffer that held h at its front and now is `new`.
 pub record Takes (n : ℕ) (before : State) (p new : List ℕ) (o : Outcome) : Type 0 where
@@ -51,3 +52,4 @@ pub record Takes (n : ℕ) (before : State) (p new : List ℕ) (o : Outcome) : T
   pub holds_none : IsTrue o.skipping → o.held ≡ 0
   pub taken_within : o.taken ≤ length p
   pub size_within : o.size ≤ length new
+  pub no_data : o.answer ≢ 1 → o.size ≡ 0

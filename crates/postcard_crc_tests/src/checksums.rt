@@ -1,9 +1,8 @@
-//! Check values of the catalogue, and what the theorems on bursts leave out.
+//! Checksums of published vectors, and what the theorems on bursts leave out.
 
 use crc::{
-    CRC_8_MAXIM_DOW, CRC_8_SMBUS, CRC_16_IBM_SDLC, CRC_16_KERMIT, CRC_16_MODBUS, CRC_16_USB,
-    CRC_16_XMODEM, CRC_24_OPENPGP, CRC_32_BZIP2, CRC_32_ISCSI, CRC_32_ISO_HDLC, CRC_32_MPEG_2,
-    CRC_64_ECMA_182, CRC_64_XZ, CRC_82_DARC, Crc, Slice8, Width, order_from,
+    CRC_8_MAXIM_DOW, CRC_8_SMBUS, CRC_16_IBM_SDLC, CRC_16_MODBUS, CRC_16_XMODEM, CRC_24_OPENPGP,
+    CRC_32_ISO_HDLC, CRC_64_XZ, CRC_82_DARC, Crc, Slice8, Width, order_from,
 };
 use std::process::Abort;
 
@@ -21,47 +20,20 @@ fn same<W: Width>(rt: &impl Abort, crc: &Crc<W>, bytes: &[u8], want: W) {
     assert!(rt; pieces == want.to_u128());
 }
 
+/// One algorithm for each type of checksums, and one that isn't reflected.
 #[test]
-fn check_values_of_8_and_16_bits(rt: HostRuntime) {
-    same(&rt, &Crc::new(&CRC_8_SMBUS), TEXT, CRC_8_SMBUS.check);
+fn check_values(rt: HostRuntime) {
+    same(&rt, &Crc::new(&CRC_8_MAXIM_DOW), TEXT, 0xa1);
+    same(&rt, &Crc::new(&CRC_16_IBM_SDLC), TEXT, 0x906e);
+    same(&rt, &Crc::new(&CRC_24_OPENPGP), TEXT, 0x21_cf02);
+    same(&rt, &Crc::new(&CRC_32_ISO_HDLC), TEXT, 0xcbf4_3926);
+    same(&rt, &Crc::new(&CRC_64_XZ), TEXT, 0x995d_c9bb_df19_39fa);
     same(
         &rt,
-        &Crc::new(&CRC_8_MAXIM_DOW),
+        &Crc::new(&CRC_82_DARC),
         TEXT,
-        CRC_8_MAXIM_DOW.check,
+        0x0_9ea8_3f62_5023_801f_d612,
     );
-    same(
-        &rt,
-        &Crc::new(&CRC_16_IBM_SDLC),
-        TEXT,
-        CRC_16_IBM_SDLC.check,
-    );
-    same(&rt, &Crc::new(&CRC_16_XMODEM), TEXT, CRC_16_XMODEM.check);
-    same(&rt, &Crc::new(&CRC_16_MODBUS), TEXT, CRC_16_MODBUS.check);
-    same(&rt, &Crc::new(&CRC_16_USB), TEXT, CRC_16_USB.check);
-    same(&rt, &Crc::new(&CRC_16_KERMIT), TEXT, CRC_16_KERMIT.check);
-}
-
-#[test]
-fn check_values_of_more_bits(rt: HostRuntime) {
-    same(&rt, &Crc::new(&CRC_24_OPENPGP), TEXT, CRC_24_OPENPGP.check);
-    same(
-        &rt,
-        &Crc::new(&CRC_32_ISO_HDLC),
-        TEXT,
-        CRC_32_ISO_HDLC.check,
-    );
-    same(&rt, &Crc::new(&CRC_32_ISCSI), TEXT, CRC_32_ISCSI.check);
-    same(&rt, &Crc::new(&CRC_32_BZIP2), TEXT, CRC_32_BZIP2.check);
-    same(&rt, &Crc::new(&CRC_32_MPEG_2), TEXT, CRC_32_MPEG_2.check);
-    same(&rt, &Crc::new(&CRC_64_XZ), TEXT, CRC_64_XZ.check);
-    same(
-        &rt,
-        &Crc::new(&CRC_64_ECMA_182),
-        TEXT,
-        CRC_64_ECMA_182.check,
-    );
-    same(&rt, &Crc::new(&CRC_82_DARC), TEXT, CRC_82_DARC.check);
 }
 
 /// With another initial value, CRC-16/XMODEM is CRC-16/IBM-3740, whose check value is 29b1.
