@@ -41,7 +41,8 @@ problem_of_text file name text words p kept shown known seen read is_kept is_kno
       (
         λ e. absurd (cc),
         λ e. absurd (cc),
-        λ q e. (
+        λ e. absurd (cc),
+        λ q e. inr (
           text,
           subst (IsSpelledBy kept known name) (sym same) held,
           λ schema is. elim refusal as (λ _. ⊥) [

@@ -9,3 +9,6 @@ pub mod Limits
 pub mod Files
 pub mod Gaps
 pub mod Shorter
+pub mod Discriminants
+pub mod Comments
+pub mod RawFronts

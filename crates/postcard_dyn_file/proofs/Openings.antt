@@ -30,13 +30,16 @@ one_plain tokens i a b =
     (λ (t, is_t, e) (u, is_u, f). let same : t ≡ u = same_Some t u (sym is_t ∙ is_u) in e ∙ ap (λ (k : Token). k.text.now) same ∙ sym f))
 
 pub one_text : (kind : Kind) (tokens : List Token) (i : ℕ) (a b : List ℕ) → IsText kind tokens i a → IsText kind tokens i b → a ≡ b
-one_text Struct tokens i a b = one_where _ _ _ _ _ (one_where _ _ _ _ _ (both_are [] a b) (both_are (codes "()") a b)) (one_plain tokens i a b)
+one_text Struct tokens i a b =
+    one_where _ _ _ _ _ (one_where _ _ _ _ _ (both_are [] a b) (both_are (codes "()") a b))
+    (one_where _ _ _ _ _ (both_are [] a b) (one_plain tokens i a b))
 one_text Alias tokens i a b = one_where _ _ _ _ _ (both_are (codes "(") a b) (one_where _ _ _ _ _ (both_are (codes ")") a b) (one_plain tokens i a b))
 one_text Enum tokens i a b =
     one_where _ _ _ _ _ (both_are (codes "(|") a b)
     (one_where _ _ _ _ _ (both_are (codes ")") a b)
     (one_where _ _ _ _ _ (one_where _ _ _ _ _ (both_are [] a b) (both_are (codes "|") a b))
-    (one_where _ _ _ _ _ (both_are [] a b) (one_plain tokens i a b))))
+    (one_where _ _ _ _ _ (both_are [] a b)
+    (one_where _ _ _ _ _ (both_are [] a b) (one_plain tokens i a b)))))
 
 -- ---- what tokens stand for, from the first on
 

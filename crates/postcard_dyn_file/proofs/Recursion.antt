@@ -12,7 +12,7 @@ use Rattle.postcard_dyn_file.specs.Expands.{Refers, Mentions, Spells, begun, own
 use borrow.Author.Count.{below_more}
 
 -- The first of some steps.
-first_step : {X : Type 0} {R : X → X → Type 0} (a b : X) → Steps R a b → (a ≡ b) ⊎ ((c : X) × R a c × Steps R c b)
+pub first_step : {X : Type 0} {R : X → X → Type 0} (a b : X) → Steps R a b → (a ≡ b) ⊎ ((c : X) × R a c × Steps R c b)
 first_step a b none = inl refl
 first_step {X} {R} a b (more {s} {t} before step) = elim (first_step a s before) as (λ _. (a ≡ t) ⊎ ((c : X) × R a c × Steps R c t)) [
   | inl same ↦ inr (t, subst (λ x. R x t) (sym same) step, none)

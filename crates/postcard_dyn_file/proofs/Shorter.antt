@@ -1,16 +1,18 @@
 -- What is left after a gap or a token is shorter, and the index after a bracket is further.
-use Rattle.std.proofs.Common.{◌≡◌, ℕ, ◌+◌, ◌<◌, ◌≤◌, List, ◌++◌, length, ap, arith, length-append, inl, inr}
+use Rattle.std.proofs.Common.{◌≡◌, ℕ, ◌+◌, ◌<◌, ◌≤◌, List, ◌∷◌, ◌++◌, length, ap, arith, length-append, inl, inr}
 use Rattle.postcard_dyn_file.specs.declared.token.Token.{Token}
 use Rattle.postcard_dyn_file.specs.Steps.{Steps, none, more}
 use Rattle.postcard_dyn_file.specs.Lexical.{CommentStep, IsBlockComment, IsLifetime, IsLiteral, IsOtherAt, IsGap, IsTokenAt}
 use Rattle.postcard_dyn_file.specs.Kept.{HasBracket, EndsBefore}
+use Rattle.postcard_dyn_file.specs.Raw.{IsRaw}
 use Rattle.postcard_dyn_file.proofs.Fronts.{letters_front}
+use Rattle.postcard_dyn_file.proofs.RawFronts.{raw_letters}
 
 -- Behind a front.
 behind : (text front rest : List ℕ) → text ≡ front ++ rest → length text ≡ length front + length rest
 behind text front rest e = let h = ap length e in omega (arith, h, length-append front rest)
 
-comment_step : (s t : ℕ × List ℕ) → CommentStep s t → length t.1 < length s.1
+pub comment_step : (s t : ℕ × List ℕ) → CommentStep s t → length t.1 < length s.1
 comment_step s t (inl (depth, e)) = let h = ap length e in omega (arith, h)
 comment_step s t (inr (inl (depth, e))) = let h = ap length e in omega (arith, h)
 comment_step s t (inr (inr (b, depth, e, no_end, no_start))) = let h = ap length e in omega (arith, h)
@@ -48,6 +50,12 @@ literal_shorter quote token text rest (inner, begins, (last, letters, end), whol
     let (front, e) = letters_front quote inner last letters in
     let h = ap length begins in let k = behind inner front last e in let l = ap length end in omega (arith, h, k, l)
 
+raw_shorter : (token text rest : List ℕ) → IsRaw token text rest → length rest < length text
+raw_shorter token text rest (hashes, inner, (word, after, is, (pass, ends, whole), (all, stops, runs)), (last, letters, end), same) =
+    let (front, e) = raw_letters hashes inner last letters in
+    let h = behind text word after whole in let k = behind after hashes (34 ∷ inner) runs in
+    let l = behind inner front last e in let m = behind last (34 ∷ hashes) rest end in omega (arith, h, k, l, m)
+
 other_shorter : (token text rest : List ℕ) → IsOtherAt token text rest → length rest < length text
 other_shorter token text rest (inl (two, (same, e))) = let h = ap length e in omega (arith, h)
 other_shorter token text rest (inr (no_two, inl (quote, literal))) = literal_shorter 34 token text rest literal
@@ -56,8 +64,9 @@ other_shorter token text rest (inr (no_two, inr (no_quote, inr (no_other, (b, lo
 
 pub token_shorter : (token text rest : List ℕ) → IsTokenAt token text rest → length rest < length text
 unfolding IsTokenAt
-token_shorter token text rest (inl ((pass, ends, whole), filled)) = let h = behind text token rest whole in omega (arith, h, filled)
-token_shorter token text rest (inr (no_word, other)) = other_shorter token text rest other
+token_shorter token text rest (inl (opens, raw)) = raw_shorter token text rest raw
+token_shorter token text rest (inr (no_raw, inl ((pass, ends, whole), filled))) = let h = behind text token rest whole in omega (arith, h, filled)
+token_shorter token text rest (inr (no_raw, inr (no_word, other))) = other_shorter token text rest other
 
 -- A bracket is behind the index at which it is looked for.
 pub bracket_further : (tokens : List Token) (i b j : ℕ) → HasBracket tokens i b → EndsBefore tokens b j → i < j

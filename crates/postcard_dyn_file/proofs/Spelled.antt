@@ -1,16 +1,17 @@
 -- What one more token of a declaration stands for, and what the problem of a name says.
-use Rattle.std.proofs.Common.{◌≡◌, ℕ, ◌+◌, ◌<◌, ◌≤◌, true, List, [], ◌∷◌, ◌++◌, refl, sym, ap, subst, ◌∙◌, append_assoc, arith, inl, inr}
+use Rattle.std.proofs.Common.{◌≡◌, ℕ, ◌+◌, ◌<◌, ◌≤◌, List, [], ◌∷◌, ◌++◌, length, refl, sym, ap, subst, ◌∙◌, append_assoc, length-append, arith, inl, inr}
 use Rattle.std.specs.Prelude.{Contains}
 use Rattle.std.proofs.lemmas.Option.{slice_get_within}
 use Rattle.postcard_dyn_file.specs.declared.token.Token.{Token}
 use Rattle.postcard_dyn_file.specs.declared.declaration.Declaration.{Declaration}
 use Rattle.postcard_dyn_file.specs.declared.error.FileProblem.{FileProblem}
-use Rattle.postcard_dyn_file.specs.declared.error.FileProblem.TheVariants.{NotDeclared, Recursive}
+use Rattle.postcard_dyn_file.specs.declared.error.FileProblem.TheVariants.{TooLong}
 use Rattle.postcard_dyn_file.specs.declared.error.FileProblem.TheVariants as problems
+use Rattle.postcard_dyn_schema.specs.declared.error.Problem.TheVariants.{TooDeep}
 use Rattle.postcard_dyn_file.specs.Tokens.{Says}
 use Rattle.postcard_dyn_file.specs.Items.{AreDeclarations, NamesDiffer}
-use Rattle.postcard_dyn_file.specs.Printed.{is_of_type}
-use Rattle.postcard_dyn_file.specs.Expands.{Spells, own, named, Writes, Spelled, AreInOrder, alone, Refers, FindsRecursion, EntersAgain, HasProblem, IsSpelledBy}
+use Rattle.postcard_dyn_file.specs.Expands.{Spells, own, named, Writes, Spelled, AreInOrder, alone, Refers, EntersAgain, HasProblem, IsSpelledBy}
+use Rattle.postcard_dyn_file.specs.Expands.{Counts, one_word, all_words, CountsAt, HasMore, own_word, inner_word, HasMoreAt, Finds, FindsRecursion, FindsDepth}
 use Rattle.postcard_dyn_file.proofs.Recursion.{spelled_not_recursive, comes_again, longer}
 
 -- The tokens of d before index i stand for what is written since `first`.
@@ -24,13 +25,39 @@ spelled_more tokens known d i first before after (text, is, spelled) (more, grow
 spelled_more tokens known d i first before after (text, is, spelled) (more, grows, inr (e, refers, whole)) =
     (text ++ more, grows ∙ ap (λ t. t ++ more) is ∙ append_assoc first text more, named d e i (i + 1) text more (text ++ more) spelled refers whole refl refl)
 
+-- One more token of a declaration is counted.
+pub counted_more : (tokens : List Token) (known : List Declaration) (d : Declaration) (i n m : ℕ) → Counts tokens known d i n → CountsAt tokens known d i m → Counts tokens known d (i + 1) (n + m)
+counted_more tokens known d i n m counts (inl (none, one)) = one_word d i (i + 1) n (n + m) counts none refl (ap (λ k. n + k) one)
+counted_more tokens known d i n m counts (inr (e, refers, all)) = all_words d e i (i + 1) n m (n + m) counts refers all refl refl
+
+-- More words are behind those before a token of which more are.
+more_at : (tokens : List Token) (known : List Declaration) (d : Declaration) (i n m : ℕ) → Counts tokens known d i n → i < d.end → HasMoreAt tokens known d i m → HasMore tokens known d (n + m)
+more_at tokens known d i n m counts inside (inl (none, zero)) = let e : n ≡ n + m = omega arith in subst (HasMore tokens known d) e (own_word d i n counts inside none)
+more_at tokens known d i n m counts inside (inr (e, refers, more)) = inner_word d e i n m (n + m) counts inside refers more refl
+
 -- The problem of writing the declaration with the name.
-pub problem_of_declaration : (tokens : List Token) (known within : List Declaration) (name : List ℕ) (d : Declaration) (problem : FileProblem)
-    → Contains known d → Says name d.name → within ≡ d ∷ [] → is_of_type problem ≡ true → (is_of_type problem ≡ true → FindsRecursion tokens known within d problem) → HasProblem tokens known name problem
-problem_of_declaration tokens known within name d problem held says is of_type finds = (
-  λ none. absurd (let h = (finds (ap is_of_type none)).0 in let e : NotDeclared ≡ Recursive = sym none ∙ h in cc),
-  λ recursive. (d, held, says, (finds (ap is_of_type recursive)).1 d (alone held within is)),
-  λ p expression. absurd (let h = (finds of_type).0 in let e : problems.Expression p ≡ Recursive = sym expression ∙ h in cc),
+pub problem_of_declaration : (tokens : List Token) (known within : List Declaration) (name : List ℕ) (d : Declaration) (count : ℕ) (problem : FileProblem)
+    → Contains known d → Says name d.name → within ≡ d ∷ [] → count ≡ 0 → Finds tokens known within d 64 (HasMore tokens known d) count problem → HasProblem tokens known name problem
+problem_of_declaration tokens known within name d count problem held says is zero (inl (recursion, finds)) = (
+  λ e. absurd (cc),
+  λ _. (d, held, says, finds d (alone held within is)),
+  λ e. absurd (cc),
+  λ p e. absurd (cc),
+)
+problem_of_declaration tokens known within name d count problem held says is zero (inr (inl (deep, finds))) = (
+  λ e. absurd (cc),
+  λ e. absurd (cc),
+  λ e. absurd (cc),
+  λ p e.
+      let (ds, last, chained, long) = finds d (alone held within is) in
+      let one = ap length is in
+      inl (cc, (d, held, says, (ds, last, chained, omega (arith, one, long)))),
+)
+problem_of_declaration tokens known within name d count problem held says is zero (inr (inr (long, (n, enough, more)))) = (
+  λ e. absurd (cc),
+  λ e. absurd (cc),
+  λ _. (d, held, says, (n, omega (arith, zero, enough), more)),
+  λ p e. absurd (cc),
 )
 
 -- The declaration with the name is written from nothing.
@@ -49,13 +76,44 @@ in_order tokens known h d has =
     (omega arith, omega arith)
 
 -- A declaration within is entered again.
-pub found_again : (tokens : List Token) (known within : List Declaration) (d e : Declaration) (i : ℕ) (problem : FileProblem) → d.start ≤ i → i < d.end → Refers tokens known d i e
-    → EntersAgain within e problem → FindsRecursion tokens known within d problem
-found_again tokens known within d e i problem start end refers (recursive, (x, has, says)) =
-    (recursive, λ root chained. comes_again tokens known root within d e x i chained has start end refers says)
+pub found_again : (tokens : List Token) (known within : List Declaration) (d e : Declaration) (i depth count : ℕ) (problem : FileProblem) → d.start ≤ i → i < d.end → Refers tokens known d i e
+    → EntersAgain within e problem → Finds tokens known within d depth (HasMoreAt tokens known d i) count problem
+found_again tokens known within d e i depth count problem start end refers (recursive, (x, has, says)) =
+    inl (recursive, λ root chained. comes_again tokens known root within d e x i chained has start end refers says)
 
--- A recursion that is found within a declaration that d mentions.
-pub found_deeper : (tokens : List Token) (known within inner : List Declaration) (d e : Declaration) (i : ℕ) (problem : FileProblem) → d.start ≤ i → i < d.end → Refers tokens known d i e
-    → inner ≡ within ++ e ∷ [] → FindsRecursion tokens known inner e problem → FindsRecursion tokens known within d problem
-found_deeper tokens known within inner d e i problem start end refers is (recursive, finds) =
-    (recursive, λ root chained. finds root (longer tokens known root within inner d e i chained start end refers is))
+-- No more names may stand for one another where d refers to another declaration.
+pub found_depth : (tokens : List Token) (known within : List Declaration) (d e : Declaration) (i depth count : ℕ) (problem : FileProblem) → d.start ≤ i → i < d.end → Refers tokens known d i e
+    → problem ≡ problems.Expression TooDeep → depth ≡ 0 → Finds tokens known within d depth (HasMoreAt tokens known d i) count problem
+found_depth tokens known within d e i depth count problem start end refers is none =
+    inr (inl (is, λ root chained. (within ++ e ∷ [], e, longer tokens known root within (within ++ e ∷ []) d e i chained start end refers refl, omega (arith, none, length-append within (e ∷ [])))))
+
+-- There are too many words before one of d.
+pub found_long : (tokens : List Token) (known within : List Declaration) (d : Declaration) (i depth count : ℕ) (problem : FileProblem) → ((e : Declaration) → Refers tokens known d i e → ⊥)
+    → (problem ≡ TooLong) × (65536 ≤ count) → Finds tokens known within d depth (HasMoreAt tokens known d i) count problem
+found_long tokens known within d i depth count problem none (is, enough) = inr (inr (is, (0, omega (arith, enough), inl (none, refl))))
+
+-- A problem that is found within a declaration that d mentions.
+pub found_deeper : (tokens : List Token) (known within inner : List Declaration) (d e : Declaration) (i depth less count : ℕ) (problem : FileProblem) → d.start ≤ i → i < d.end
+    → Refers tokens known d i e → inner ≡ within ++ e ∷ [] → less + 1 ≡ depth → Finds tokens known inner e less (HasMore tokens known e) count problem
+    → Finds tokens known within d depth (HasMoreAt tokens known d i) count problem
+found_deeper tokens known within inner d e i depth less count problem start end refers is one (inl (recursive, finds)) =
+    inl (recursive, λ root chained. finds root (longer tokens known root within inner d e i chained start end refers is))
+found_deeper tokens known within inner d e i depth less count problem start end refers is one (inr (inl (deep, finds))) =
+    let size = ap length is in
+    inr (inl (
+      deep,
+      λ root chained.
+          let (ds, last, chained_on, long) = finds root (longer tokens known root within inner d e i chained start end refers is) in
+          (ds, last, chained_on, omega (arith, one, long, size, length-append within (e ∷ []))),
+    ))
+found_deeper tokens known within inner d e i depth less count problem start end refers is one (inr (inr (long, (n, enough, more)))) = inr (inr (long, (n, enough, inr (e, refers, more))))
+
+-- A problem that is found at a token of d.
+pub found_at : (tokens : List Token) (known within now : List Declaration) (d : Declaration) (i depth count n before : ℕ) (problem : FileProblem) → now ≡ within → before ≡ count + n
+    → Counts tokens known d i n → i < d.end → Finds tokens known now d depth (HasMoreAt tokens known d i) before problem → Finds tokens known within d depth (HasMore tokens known d) count problem
+found_at tokens known within now d i depth count n before problem same size counts inside (inl recursion) =
+    inl (subst (λ ds. FindsRecursion tokens known ds d problem) same recursion)
+found_at tokens known within now d i depth count n before problem same size counts inside (inr (inl deep)) =
+    inr (inl (subst (λ ds. FindsDepth tokens known ds d depth problem) same deep))
+found_at tokens known within now d i depth count n before problem same size counts inside (inr (inr (long, (m, enough, more)))) =
+    inr (inr (long, (n + m, omega (arith, size, enough), more_at tokens known d i n m counts inside more)))

@@ -5,21 +5,22 @@ use Rattle.postcard_dyn_file.specs.declared.declaration.Declaration.{Declaration
 use Rattle.postcard_dyn_file.specs.declared.declaration.Kind.{Kind}
 use Rattle.postcard_dyn_file.specs.declared.declaration.Kind.TheVariants.{Enum}
 use Rattle.postcard_dyn_file.specs.declared.error.FileProblem.{FileProblem}
-use Rattle.postcard_dyn_file.specs.declared.error.FileProblem.TheVariants.{NotDeclared, Recursive}
+use Rattle.postcard_dyn_file.specs.declared.error.FileProblem.TheVariants.{NotDeclared, Recursive, TooLong}
 use Rattle.postcard_dyn_file.specs.declared.error.FileProblem.TheVariants as problems
 use Rattle.postcard_dyn_schema.specs.declared.error.Problem.{Problem}
+use Rattle.postcard_dyn_schema.specs.declared.error.Problem.TheVariants.{TooDeep}
 use Rattle.postcard_dyn_schema.specs.declared.schema.Schema.{Schema}
 use Rattle.postcard_dyn_schema.specs.Grammar.{IsExpression}
 use Rattle.postcard_dyn_file.specs.Steps.{Steps}
 use Rattle.postcard_dyn_file.specs.Tokens.{Says, IsAt}
-use Rattle.postcard_dyn_file.specs.Words.{IsText}
+use Rattle.postcard_dyn_file.specs.Words.{IsDiscriminant, IsText}
 
--- The token at index i names a field, which `:` follows, or a variant, which has one bracket around it.
+-- The token at index i names a field, which `:` follows, or a variant, which has one bracket around it, or is of the discriminant of one.
 abbrev pub IsMember : List Token → Kind → ℕ → Type 0
 IsMember tokens kind i = IsAt (codes ":") tokens (i + 1)
-    ⊎ ((kind ≡ Enum) × ((t : Token) × (slice_get tokens i ≡ Some t) × (t.depth ≡ 1)))
+    ⊎ ((kind ≡ Enum) × (((t : Token) × (slice_get tokens i ≡ Some t) × (t.depth ≡ 1)) ⊎ IsDiscriminant tokens i))
 
--- The token at index i, one of the declaration d, refers to the declaration e: it is the name of e, and no member's.
+-- The token at index i, one of the declaration d, refers to the declaration e: it is the name of e, and no member's, nor of a discriminant.
 abbrev pub Refers : List Token → List Declaration → Declaration → ℕ → Declaration → Type 0
 Refers tokens known d i e = (t : Token) × (slice_get tokens i ≡ Some t) × (IsMember tokens d.kind i → ⊥) × Contains known e × Says t.text.now e.name
 
@@ -73,6 +74,50 @@ abbrev pub FindsRecursion : List Token → List Declaration → List Declaration
 FindsRecursion tokens known within d problem = (problem ≡ Recursive)
     × ((root : Declaration) → IsChain tokens known root within d → IsRecursive tokens known root)
 
+-- The tokens of d before index i stand for this number of words: each for one, and one that refers to a declaration for those of that one.
+pub data Counts (tokens : List Token) (known : List Declaration) : Declaration → ℕ → ℕ → Type 0 where
+  no_word : (d : Declaration) → Counts tokens known d d.start 0
+  one_word : (d : Declaration) (i j n m : ℕ) → Counts tokens known d i n → ((e : Declaration) → Refers tokens known d i e → ⊥)
+      → j ≡ i + 1 → m ≡ n + 1 → Counts tokens known d j m
+  all_words : (d e : Declaration) (i j n m k : ℕ) → Counts tokens known d i n → Refers tokens known d i e → Counts tokens known e e.end m
+      → j ≡ i + 1 → k ≡ n + m → Counts tokens known d j k
+
+-- What d stands for has a word behind this number of words.
+pub data HasMore (tokens : List Token) (known : List Declaration) : Declaration → ℕ → Type 0 where
+  own_word : (d : Declaration) (i n : ℕ) → Counts tokens known d i n → i < d.end → ((e : Declaration) → Refers tokens known d i e → ⊥) → HasMore tokens known d n
+  inner_word : (d e : Declaration) (i n m k : ℕ) → Counts tokens known d i n → i < d.end → Refers tokens known d i e → HasMore tokens known e m
+      → k ≡ n + m → HasMore tokens known d k
+
+-- What the token at index i of d stands for has this number of words.
+abbrev pub CountsAt : List Token → List Declaration → Declaration → ℕ → ℕ → Type 0
+CountsAt tokens known d i n = (((e : Declaration) → Refers tokens known d i e → ⊥) × (n ≡ 1)) ⊎ ((e : Declaration) × Refers tokens known d i e × Counts tokens known e e.end n)
+
+-- What the token at index i of d stands for has a word behind this number of words.
+abbrev pub HasMoreAt : List Token → List Declaration → Declaration → ℕ → ℕ → Type 0
+HasMoreAt tokens known d i n = (((e : Declaration) → Refers tokens known d i e → ⊥) × (n ≡ 0)) ⊎ ((e : Declaration) × Refers tokens known d i e × HasMore tokens known e n)
+
+-- What d stands for has more than 65,536 words.
+abbrev pub IsLong : List Token → List Declaration → Declaration → Type 0
+IsLong tokens known d = (n : ℕ) × (65536 ≤ n) × HasMore tokens known d n
+
+-- More than 64 names stand for one another from `root` on: of a chain of more than 65 declarations each mentions the next one.
+abbrev pub IsNested : List Token → List Declaration → Declaration → Type 0
+IsNested tokens known root = (ds : List Declaration) × (last : Declaration) × IsChain tokens known root ds last × (65 < length ds)
+
+-- The problem is that names stand for one another too deeply: `depth` more might do so within those being replaced, of which the last is d.
+abbrev pub FindsDepth : List Token → List Declaration → List Declaration → Declaration → ℕ → FileProblem → Type 0
+FindsDepth tokens known within d depth problem = (problem ≡ problems.Expression TooDeep)
+    × ((root : Declaration) → IsChain tokens known root within d
+    → (ds : List Declaration) × (last : Declaration) × IsChain tokens known root ds last × (length within + depth < length ds))
+
+-- The problem is one of the declarations being replaced, of which the last is d, or there are too many words, which `IsMore` counts from
+-- the first `count` words on.
+abbrev pub Finds : List Token → List Declaration → List Declaration → Declaration → ℕ → (ℕ → Type 0) → ℕ → FileProblem → Type 0
+Finds tokens known within d depth IsMore count problem =
+    FindsRecursion tokens known within d problem
+    ⊎ (FindsDepth tokens known within d depth problem
+    ⊎ ((problem ≡ TooLong) × ((n : ℕ) × (65536 ≤ count + n) × IsMore n)))
+
 -- The problem is that a declaration within them has the name of e.
 abbrev pub EntersAgain : List Declaration → Declaration → FileProblem → Type 0
 EntersAgain within e problem = (problem ≡ Recursive) × ((x : Declaration) × Contains within x × Says e.name.text.now x.name)
@@ -82,10 +127,13 @@ abbrev pub IsSpelledBy : List Token → List Declaration → List ℕ → List �
 IsSpelledBy tokens known name text = (d : Declaration) × Contains known d × Says name d.name
     × (IsRecursive tokens known d → ⊥) × Spells tokens known d d.end text
 
--- If the problem is one of the type with this name: no declaration has the name, the one that has it is recursive, or what it stands
--- for is no type expression.
+-- If the problem is one of the type with this name: no declaration has the name, the one that has it is recursive, has too many words or
+-- nests too deeply, or what it stands for is no type expression.
 abbrev pub HasProblem : List Token → List Declaration → List ℕ → FileProblem → Type 0
 HasProblem tokens known name problem =
     (problem ≡ NotDeclared → All (λ d. Says name d.name → ⊥) known)
     × (problem ≡ Recursive → (d : Declaration) × Contains known d × Says name d.name × IsRecursive tokens known d)
-    × ((p : Problem) → problem ≡ problems.Expression p → (text : List ℕ) × IsSpelledBy tokens known name text × ((schema : Schema) → IsExpression schema text → ⊥))
+    × (problem ≡ TooLong → (d : Declaration) × Contains known d × Says name d.name × IsLong tokens known d)
+    × ((p : Problem) → problem ≡ problems.Expression p
+    → ((p ≡ TooDeep) × ((d : Declaration) × Contains known d × Says name d.name × IsNested tokens known d))
+    ⊎ ((text : List ℕ) × IsSpelledBy tokens known name text × ((schema : Schema) → IsExpression schema text → ⊥)))

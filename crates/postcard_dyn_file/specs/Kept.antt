@@ -37,10 +37,11 @@ IsEmptyAngle tokens i =
     (IsAt (codes "<") tokens i × IsAt (codes ">") tokens (i + 1))
     ⊎ (IsAt (codes ">") tokens i × IsBefore (codes "<") tokens i)
 
--- The token at index i is passed over alone: `pub`, `::`, a name before `::`, or an empty angle.
+-- The token at index i is passed over alone: `pub`, `::`, a name before `::`, a comma before `>`, or an empty angle.
 abbrev pub IsPassed : List Token → ℕ → Type 0
 IsPassed tokens i = (IsAt (codes "pub") tokens i ⊎ IsAt (codes "::") tokens i)
-    ⊎ ((IsNameAt tokens i × IsAt (codes "::") tokens (i + 1)) ⊎ IsEmptyAngle tokens i)
+    ⊎ ((IsNameAt tokens i × IsAt (codes "::") tokens (i + 1))
+    ⊎ ((IsAt (codes ",") tokens i × IsAt (codes ">") tokens (i + 1)) ⊎ IsEmptyAngle tokens i))
 
 -- The index that is read next, and the tokens that are kept so far.
 abbrev pub KeepStep : List Token → ℕ × List Token → ℕ × List Token → Type 0

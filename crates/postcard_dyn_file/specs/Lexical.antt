@@ -1,10 +1,11 @@
 -- How a file is read as tokens: its words, signs and literals, with gaps between them.
 use Rattle.std.specs.Prelude.{◌≡◌, ◌≢◌, ℕ, ◌+◌, ◌<◌, true, ◌⊎◌, List, [], ◌∷◌, ◌++◌, length, slice_index, codes}
 use Rattle.std.specs.Char.{is_ascii_whitespace}
-use Rattle.std.specs.List.{AllPass}
-use Rattle.postcard_dyn_schema.specs.Text.{is_of_word, EndsWord}
+use Rattle.postcard_dyn_schema.specs.Text.{EndsWord}
 use Rattle.postcard_dyn_file.specs.declared.token.Token.{Token}
 use Rattle.postcard_dyn_file.specs.Steps.{Steps, StepsToZero}
+use Rattle.postcard_dyn_file.specs.Tokens.{IsWordFront}
+use Rattle.postcard_dyn_file.specs.Raw.{IsRaw, IsRawOpening}
 use Rattle.postcard_dyn_file.specs.Words.{Where}
 
 -- The text begins with these two bytes.
@@ -44,10 +45,6 @@ IsLiteral quote token text rest = (inner : List ℕ) × (text ≡ quote ∷ inne
 abbrev pub BeginsBy : ℕ → List ℕ → Type 0
 BeginsBy b text = (rest : List ℕ) × (text ≡ b ∷ rest)
 
--- The text begins with this word, all of whose letters it has, or with none, and `rest` is left.
-abbrev pub IsWordFront : List ℕ → List ℕ → List ℕ → Type 0
-IsWordFront word text rest = AllPass is_of_word word × EndsWord rest × (text ≡ word ++ rest)
-
 -- The text begins with a lifetime, behind whose name no quote is, and the comma behind it if there is one, and `rest` is left.
 unfoldable pub IsLifetime : List ℕ → List ℕ → Type 0
 IsLifetime text rest = (inner : List ℕ) × (name : List ℕ) × (after : List ℕ) × (text ≡ 39 ∷ inner) × IsWordFront name inner after × (0 < length name)
@@ -73,8 +70,13 @@ IsOtherAt token text rest =
     (IsSignAt token text rest)))
 
 -- The text begins with this token, and `rest` is left: with a word, or where no word begins it, with another token.
+abbrev pub IsPlainAt : List ℕ → List ℕ → List ℕ → Type 0
+IsPlainAt token text rest = (IsWordFront token text rest × (0 < length token)) ⊎ (EndsWord text × IsOtherAt token text rest)
+
+-- The text begins with this token, and `rest` is left: with a raw literal, or where none begins it, with another token.
 unfoldable pub IsTokenAt : List ℕ → List ℕ → List ℕ → Type 0
-IsTokenAt token text rest = (IsWordFront token text rest × (0 < length token)) ⊎ (EndsWord text × IsOtherAt token text rest)
+IsTokenAt token text rest =
+    Where ((hashes : List ℕ) × (inner : List ℕ) × IsRawOpening hashes text inner) (IsRaw token text rest) (IsPlainAt token text rest)
 
 abbrev pub IsOpening : List ℕ → Type 0
 IsOpening word = (word ≡ codes "(") ⊎ ((word ≡ codes "[") ⊎ (word ≡ codes "{"))

@@ -1,5 +1,6 @@
 pub mod Steps
 pub mod Tokens
+pub mod Raw
 pub mod Lexical
 pub mod Kept
 pub mod Items
@@ -13,8 +14,8 @@ pub mod Files
 pub use Rattle.postcard_dyn_schema.specs.Grammar.{IsExpression}
 pub use Rattle.postcard_dyn_schema.specs.Text.{is_of_word as is_of_word_byte}
 pub use Rattle.postcard_dyn_schema.specs.declared.schema.Schema.{Schema}
-pub use Rattle.postcard_dyn_file.specs.Expands.{AreInOrder, EntersAgain, FindsRecursion, HasProblem}
-pub use Rattle.postcard_dyn_file.specs.Expands.{IsMember, IsSpelledBy, Refers, Spelled, Writes}
+pub use Rattle.postcard_dyn_file.specs.Expands.{AreInOrder, Counts, CountsAt, EntersAgain, Finds, HasMore}
+pub use Rattle.postcard_dyn_file.specs.Expands.{HasMoreAt, HasProblem, IsMember, IsSpelledBy, Refers, Spelled, Writes}
 pub use Rattle.postcard_dyn_file.specs.Files.{HasProblemOf, IsExpressionOf, IsTypeOf, IsWithin}
 pub use Rattle.postcard_dyn_file.specs.Items.{AreDeclarations, BeginsItem, Declares, EndsItem}
 pub use Rattle.postcard_dyn_file.specs.Items.{IsItemEnd, IsKeyword, NamesDiffer, ReadsItem}
@@ -23,12 +24,15 @@ pub use Rattle.postcard_dyn_file.specs.Kept.{IsEmptyAngle, IsLimit, IsPassed, Is
 pub use Rattle.postcard_dyn_file.specs.Lexical.{Begins, CommentStep, HasDepth, IsBlank}
 pub use Rattle.postcard_dyn_file.specs.Lexical.{IsBlockComment, IsGap, IsLetter, IsLifetime}
 pub use Rattle.postcard_dyn_file.specs.Lexical.{IsLineComment, IsLiteral, IsOtherAt, IsQuoted}
-pub use Rattle.postcard_dyn_file.specs.Lexical.{IsRead, IsSignAt, IsTokenAt, IsWordFront, ReadStep}
+pub use Rattle.postcard_dyn_file.specs.Lexical.{IsPlainAt, IsRead, IsSignAt, IsTokenAt, ReadStep}
 pub use Rattle.postcard_dyn_file.specs.Openings.{BeginsType, IsOpened, Opens}
 pub use Rattle.postcard_dyn_file.specs.Places.{IsLineStart, IsPlace}
 pub use Rattle.postcard_dyn_file.specs.Printed.{file_error_text, file_problem_text, is_of_type}
-pub use Rattle.postcard_dyn_file.specs.Tokens.{IsAt, IsBefore, IsName, IsNameAt, Says, spelling}
-pub use Rattle.postcard_dyn_file.specs.Words.{IsAliasText, IsDiscriminant, IsEnumText, IsPlainText}
-pub use Rattle.postcard_dyn_file.specs.Words.{IsSign, IsStructText, IsText}
+pub use Rattle.postcard_dyn_file.specs.Raw.{IsHashFront, IsRaw, IsRawOpening, IsRawPrefix, IsRawQuoted}
+pub use Rattle.postcard_dyn_file.specs.Tokens.{BeginsName, IsAt, IsBefore, IsName, IsNameAt, IsWordFront}
+pub use Rattle.postcard_dyn_file.specs.Tokens.{Says, spelling}
+pub use Rattle.postcard_dyn_file.specs.Words.{EndsDiscriminant, IsAliasText, IsDiscriminant, IsEnumText}
+pub use Rattle.postcard_dyn_file.specs.Words.{IsLastComma, IsPlainText, IsSign, IsStructText, IsText}
 pub use Rattle.postcard_dyn_file.specs.declared.declaration.Declaration.{Declaration}
 pub use Rattle.postcard_dyn_file.specs.declared.declaration.Kind.{Kind}
+pub use Rattle.postcard_dyn_file.specs.declared.error.FileProblem.TheVariants.{ItemOpen, TooLong}

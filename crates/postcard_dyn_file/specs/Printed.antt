@@ -2,7 +2,7 @@
 use Rattle.std.specs.Prelude.{ℕ, Bool, true, false, not, List, ◌++◌, codes}
 use Rattle.std.specs.Fmt.{decimal}
 use Rattle.postcard_dyn_schema.specs.declared.error.Problem.{Problem}
-use Rattle.postcard_dyn_schema.specs.declared.error.Problem.TheVariants.{OutOfMemory, TooDeep}
+use Rattle.postcard_dyn_schema.specs.declared.error.Problem.TheVariants.{OutOfMemory}
 use Rattle.postcard_dyn_schema.specs.Printed.{problem_text}
 use Rattle.postcard_dyn_file.specs.declared.error.FileProblem.{FileProblem}
 use Rattle.postcard_dyn_file.specs.declared.error.FileProblem.TheVariants.{CommentOpen, LiteralOpen, AsciiExpected, BracketOpen, NotOpen, ItemOpen, NameExpected, DeclaredTwice, NotDeclared, Generic, Recursive, BodyExpected, BraceExpected, EqualsExpected, SemicolonExpected, TooLong}
@@ -33,15 +33,16 @@ file_problem_text (problems.Expression problem) = problem_text problem
 abbrev pub file_error_text : FileError → List ℕ
 file_error_text e = codes "line " ++ decimal e.line ++ codes ", column " ++ decimal e.column ++ codes ": " ++ file_problem_text e.problem
 
--- The problem is none of a type: memory is lacking, or types nest too deeply.
+-- The problem is none of a type: memory is lacking.
 abbrev pub is_limit : Problem → Bool
 is_limit OutOfMemory = true
-is_limit TooDeep = true
 is_limit problem = false
 
--- Whether the problem is one of the type that is asked for: that none is declared so, that it has itself in it, or that it is no type.
+-- Whether the problem is one of the type that is asked for: that none is declared so, that it has itself in it, that it is too long, or that
+-- it is no type.
 abbrev pub is_of_type : FileProblem → Bool
 is_of_type NotDeclared = true
 is_of_type Recursive = true
+is_of_type TooLong = true
 is_of_type (problems.Expression problem) = not (is_limit problem)
 is_of_type problem = false

@@ -1,7 +1,8 @@
 -- What the tokens of a file say.
 use Rattle.std.specs.Prelude.{◌≡◌, ℕ, ◌+◌, ◌||◌, nat_eq, true, Some, List, [], ◌∷◌, ◌++◌, slice_get}
 use Rattle.std.specs.Char.{is_ascii_alphabetic}
-use Rattle.std.specs.List.{flat_map}
+use Rattle.std.specs.List.{AllPass, flat_map}
+use Rattle.postcard_dyn_schema.specs.Text.{is_of_word, EndsWord}
 use Rattle.postcard_dyn_file.specs.declared.token.Token.{Token}
 
 -- The token is this word or sign.
@@ -16,9 +17,17 @@ IsAt word tokens i = (t : Token) × (slice_get tokens i ≡ Some t) × Says word
 abbrev pub IsBefore : List ℕ → List Token → ℕ → Type 0
 IsBefore word tokens i = (j : ℕ) × (i ≡ j + 1) × IsAt word tokens j
 
--- The word begins with a letter or `_`.
+-- The text begins with this word, all of whose letters it has, or with none, and `rest` is left.
+abbrev pub IsWordFront : List ℕ → List ℕ → List ℕ → Type 0
+IsWordFront word text rest = AllPass is_of_word word × EndsWord rest × (text ≡ word ++ rest)
+
+-- The text begins with a letter or `_`.
+abbrev pub BeginsName : List ℕ → Type 0
+BeginsName word = (first : ℕ) × (letters : List ℕ) × (word ≡ first ∷ letters) × ((is_ascii_alphabetic first || nat_eq first 95) ≡ true)
+
+-- The text is letters, digits and `_`, and begins with no digit.
 abbrev pub IsName : List ℕ → Type 0
-IsName word = (first : ℕ) × (letters : List ℕ) × (word ≡ first ∷ letters) × ((is_ascii_alphabetic first || nat_eq first 95) ≡ true)
+IsName word = AllPass is_of_word word × BeginsName word
 
 abbrev pub IsNameAt : List Token → ℕ → Type 0
 IsNameAt tokens i = (t : Token) × (slice_get tokens i ≡ Some t) × IsName t.text.now

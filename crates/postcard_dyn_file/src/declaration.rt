@@ -1,10 +1,10 @@
 //! The declarations of types in a file.
 
-ghost use Rattle.std.specs.Prelude.{◌≡◌, ◌+◌, ◌<◌, false, length, All, Contains, Decides, OnOk};
+ghost use Rattle.std.specs.Prelude.{◌≡◌, ℕ, ◌+◌, ◌<◌, false, length, All, Contains, Decides, OnOk};
 ghost use Rattle.std.specs.Prelude.{IfOk, IfErr, IfSome, IfNone};
 ghost use Rattle.postcard_dyn_file.specs.{AreDeclarations, BeginsItem, Declaration, Declares};
-ghost use Rattle.postcard_dyn_file.specs.{EndsItem, IsItemEnd, IsKeyword, Kind, ReadsItem, Says};
-ghost use Rattle.postcard_dyn_file.specs.{is_of_type};
+ghost use Rattle.postcard_dyn_file.specs.{EndsItem, IsItemEnd, IsKeyword, ItemOpen, Kind};
+ghost use Rattle.postcard_dyn_file.specs.{ReadsItem, Says, is_of_type};
 
 use crate::error::{FileProblem, ProblemAt, out_of_memory};
 use crate::token::{Token, is_name_at, place_of, token_at};
@@ -120,6 +120,8 @@ fn declared<'a>(tokens: &[Token<'a>], at: usize) -> Result<Option<Declaration<'a
     ensures found { IfOk result (λ found. IfSome found (λ d. Declares tokens.now at d)) }
     ensures none { IfOk result (λ found. IfNone found
         ((d : Declaration) → Declares tokens.now at d → ⊥)) }
+    ensures open { IfErr result (λ e. e.problem ≡ ItemOpen
+        → (end : ℕ) → IsItemEnd tokens.now (at + 2) end → ⊥) }
     ensures other { IfErr result (λ e. is_of_type e.problem ≡ false) }
 {
     if !begins_item(tokens, at) {
@@ -151,7 +153,8 @@ fn declared<'a>(tokens: &[Token<'a>], at: usize) -> Result<Option<Declaration<'a
 /// Returns the index after the first token, from the index `start` on, that ends an item, or `None` if
 /// none does.
 fn item_end(tokens: &[Token], start: usize) -> Option<usize>
-    ensures { IfSome result (λ end. IsItemEnd tokens.now start end) }
+    ensures found { IfSome result (λ end. IsItemEnd tokens.now start end) }
+    ensures none { IfNone result ((end : ℕ) → IsItemEnd tokens.now start end → ⊥) }
 {
     for last in start..tokens.len() {
         if ends_item(tokens, last) {

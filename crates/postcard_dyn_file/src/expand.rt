@@ -5,17 +5,17 @@
 //! the one before it. `depth` is how many more may be replaced inside of the last. The functions
 //! below [`words_of`] fail as it does.
 
-ghost use Rattle.std.specs.Prelude.{◌≡◌, ◌+◌, ◌<◌, ◌≤◌, ◌++◌, ◌∷◌, [], true, false, length};
+ghost use Rattle.std.specs.Prelude.{◌≡◌, ℕ, ◌+◌, ◌<◌, ◌≤◌, ◌++◌, ◌∷◌, [], true, length};
 ghost use Rattle.std.specs.Prelude.{Decides, OnOk, IfOk, IfErr, IfSome, IfNone};
-ghost use Rattle.postcard_dyn_file.specs.{AreInOrder, BeginsType, Declaration, EntersAgain};
-ghost use Rattle.postcard_dyn_file.specs.{FindsRecursion, HasProblem, IsMember, IsOpened};
-ghost use Rattle.postcard_dyn_file.specs.{IsSpelledBy, NamesDiffer, Refers, Spelled, Writes};
-ghost use Rattle.postcard_dyn_file.specs.{is_of_type, spelling};
+ghost use Rattle.postcard_dyn_file.specs.{AreInOrder, BeginsType, Counts, CountsAt, Declaration};
+ghost use Rattle.postcard_dyn_file.specs.{EntersAgain, Finds, HasMore, HasMoreAt, HasProblem};
+ghost use Rattle.postcard_dyn_file.specs.{IsMember, IsOpened, IsSpelledBy, NamesDiffer, Refers};
+ghost use Rattle.postcard_dyn_file.specs.{Spelled, TooLong, Writes, is_of_type, spelling};
 
 use crate::declaration::{Declaration, Kind, named};
 use crate::error::{FileProblem, ProblemAt, out_of_memory};
 use crate::token::{Token, is_at};
-use crate::words::{check_body, text_of};
+use crate::words::{check_body, is_discriminant, text_of};
 use postcard_dyn_schema::Problem;
 use std::alloc::Global;
 
@@ -79,10 +79,14 @@ fn write_declaration<'a>(
     requires inside { declaration.now.end ≤ length tokens.now }
     ensures written { OnOk result (Spelled tokens.now known.now declaration.now
         (spelling out.old.items) (spelling out.new.items)) }
+    ensures counted { OnOk result ((n : ℕ)
+        × (length out.new.items ≡ length out.old.items + n)
+        × Counts tokens.now known.now declaration.now declaration.now.end n) }
     ensures begins { OnOk result (BeginsType tokens.now declaration.now) }
     ensures kept { OnOk result (within.new.items ≡ within.old.items) }
     ensures problem { IfErr result (λ e. is_of_type e.problem ≡ true
-        → FindsRecursion tokens.now known.now within.old.items declaration.now e.problem) }
+        → Finds tokens.now known.now within.old.items declaration.now depth
+        (HasMore tokens.now known.now declaration.now) (length out.old.items) e.problem) }
 {
     check_body(tokens, declaration)?;
     for at in declaration.start..declaration.end {
@@ -108,9 +112,13 @@ fn write_token<'a>(
     requires inside { at < length tokens.now }
     ensures written { OnOk result (Writes tokens.now known.now declaration.now at
         (spelling out.old.items) (spelling out.new.items)) }
+    ensures counted { OnOk result ((n : ℕ)
+        × (length out.new.items ≡ length out.old.items + n)
+        × CountsAt tokens.now known.now declaration.now at n) }
     ensures kept { OnOk result (within.new.items ≡ within.old.items) }
     ensures problem { IfErr result (λ e. is_of_type e.problem ≡ true
-        → FindsRecursion tokens.now known.now within.old.items declaration.now e.problem) }
+        → Finds tokens.now known.now within.old.items declaration.now depth
+        (HasMoreAt tokens.now known.now declaration.now at) (length out.old.items) e.problem) }
 {
     let left = tokens[at].left;
     let Some(other) = referred(tokens, known, declaration, at) else {
@@ -141,13 +149,17 @@ fn referred<'a>(
     ensures none { IfNone result ((e : Declaration)
         → Refers tokens.now known.now declaration.now at e → ⊥) }
 {
+    let Some(other) = named(known, tokens[at].text) else {
+        return None;
+    };
     if is_member(tokens, declaration.kind, at) {
         return None;
     }
-    named(known, tokens[at].text)
+    Some(other)
 }
 
-/// Returns whether the token at the index names a field, before `:`, or a variant.
+/// Returns whether the token at the index names a field, before `:`, or a variant, or is of the
+/// discriminant of one.
 fn is_member(tokens: &[Token], kind: Kind, at: usize) -> bool
     requires { at < length tokens.now }
     ensures { Decides result (IsMember tokens.now kind at) }
@@ -156,7 +168,7 @@ fn is_member(tokens: &[Token], kind: Kind, at: usize) -> bool
         return true;
     }
     match kind {
-        Kind::Enum => tokens[at].depth == 1,
+        Kind::Enum => tokens[at].depth == 1 || is_discriminant(tokens, at),
         _ => false,
     }
 }
@@ -188,7 +200,9 @@ fn enter<'a>(
 fn push<'a>(out: &mut Vec<Token<'a>>, text: &'a [u8], left: usize) -> Result<(), ProblemAt>
     ensures pushed { OnOk result (spelling out.new.items
         ≡ spelling out.old.items ++ (text.now ++ 32 ∷ [])) }
-    ensures other { IfErr result (λ e. is_of_type e.problem ≡ false) }
+    ensures counted { OnOk result (length out.new.items ≡ length out.old.items + 1) }
+    ensures problem { IfErr result (λ e. is_of_type e.problem ≡ true
+        → (e.problem ≡ TooLong) × (65536 ≤ length out.old.items)) }
 {
     if out.len() >= MAX_WORDS {
         return Err(ProblemAt {

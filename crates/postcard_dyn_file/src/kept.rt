@@ -1,5 +1,5 @@
 //! The tokens of a file that declarations are read from: all but those of attributes, visibilities
-//! and paths before a name, and `<` and `>` with nothing between them.
+//! and paths before a name, a comma before `>`, and `<` and `>` with nothing between them.
 
 ghost use Rattle.std.specs.Prelude.{◌≡◌, ℕ, ◌+◌, ◌<◌, false, length, Decides, IfOk, IfErr, IfSome};
 ghost use Rattle.std.specs.Prelude.{IfNone};
@@ -129,8 +129,8 @@ fn after_bracket(tokens: &[Token], at: usize) -> Result<usize, ProblemAt>
     })
 }
 
-/// Returns whether the token at the index is passed over alone: `pub`, `::`, a name before `::`, or one
-/// of `<` and `>` with nothing between them.
+/// Returns whether the token at the index is passed over alone: `pub`, `::`, a name before `::`, a
+/// comma before `>`, or one of `<` and `>` with nothing between them.
 fn is_passed(tokens: &[Token], at: usize) -> bool
     requires { at < length tokens.now }
     ensures { Decides result (IsPassed tokens.now at) }
@@ -139,6 +139,9 @@ fn is_passed(tokens: &[Token], at: usize) -> bool
         return true;
     }
     if is_name_at(tokens, at) && is_at(tokens, at + 1, b"::") {
+        return true;
+    }
+    if is_at(tokens, at, b",") && is_at(tokens, at + 1, b">") {
         return true;
     }
     is_empty_angle(tokens, at)

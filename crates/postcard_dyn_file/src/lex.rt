@@ -4,13 +4,15 @@
 //! begin with that.
 
 ghost use Rattle.std.specs.Prelude.{◌≡◌, ℕ, ◌<◌, List, ◌∷◌, length, false, IfOk, IfErr, IfSome};
-ghost use Rattle.std.specs.Prelude.{IfNone};
+ghost use Rattle.std.specs.Prelude.{IfNone, ◌⊎◌, []};
 ghost use Rattle.postcard_dyn_file.specs.{Begins, CommentStep, HasDepth, IsBlank, IsBlockComment};
 ghost use Rattle.postcard_dyn_file.specs.{IsGap, IsLetter, IsLifetime, IsLineComment, IsLiteral};
-ghost use Rattle.postcard_dyn_file.specs.{IsOtherAt, IsQuoted, IsRead, IsSignAt, IsTokenAt};
-ghost use Rattle.postcard_dyn_file.specs.{IsWordFront, ReadStep, is_of_type, is_of_word_byte};
+ghost use Rattle.postcard_dyn_file.specs.{IsOtherAt, IsPlainAt, IsQuoted, IsRead, IsSignAt};
+ghost use Rattle.postcard_dyn_file.specs.{IsTokenAt, IsWordFront, ReadStep, is_of_type};
+ghost use Rattle.postcard_dyn_file.specs.{is_of_word_byte};
 
 use crate::error::{FileProblem, ProblemAt, out_of_memory};
+use crate::raw::raw_front;
 use crate::token::Token;
 use std::alloc::Global;
 
@@ -142,7 +144,7 @@ fn after_blank(text: &[u8]) -> Option<&[u8]>
     }
 }
 
-fn after_byte(text: &[u8], byte: u8) -> Option<&[u8]>
+pub(crate) fn after_byte(text: &[u8], byte: u8) -> Option<&[u8]>
     ensures found { IfSome result (λ rest. text.now ≡ byte ∷ rest.now) }
     ensures none { IfNone result ((rest : List ℕ) → text.now ≡ byte ∷ rest → ⊥) }
 {
@@ -178,21 +180,21 @@ fn after_line_comment(text: &[u8]) -> Option<&[u8]>
     Some(rest)
 }
 
-/// A comment in `/*` and `*/` may have others in it. Fails with `CommentOpen` if it isn't closed.
+/// A comment in `/*` and `*/` may have others in it, to any depth. Fails with `CommentOpen` if it isn't
+/// closed, and only then.
 fn after_block_comment(text: &[u8]) -> Result<Option<&[u8]>, ProblemAt>
     ensures found { IfOk result (λ found. IfSome found (λ rest. IsBlockComment text.now rest.now)) }
     ensures none { IfOk result (λ found. IfNone found (Begins 47 42 text.now → ⊥)) }
+    ensures open { IfErr result (λ _. (rest : List ℕ) → IsBlockComment text.now rest → ⊥) }
     ensures other { IfErr result (λ e. is_of_type e.problem ≡ false) }
 {
+    let left = text.len();
     let Some(inner) = after_two(text, b'/', b'*') else {
         return Ok(None);
     };
     let mut rest = inner;
     let mut depth: usize = 1;
-    for _ in 0..inner.len() {
-        let Some((next, after)) = in_comment(rest, depth) else {
-            break;
-        };
+    'bytes: while let Some((next, after)) = in_comment(rest, depth) {
         if next == 0 {
             return Ok(Some(after));
         }
@@ -201,14 +203,17 @@ fn after_block_comment(text: &[u8]) -> Result<Option<&[u8]>, ProblemAt>
     }
     Err(ProblemAt {
         problem: FileProblem::CommentOpen,
-        left: text.len(),
+        left,
     })
 }
 
 /// Returns how many comments are open after `*/`, `/*` or another byte, if `depth` are open before,
 /// and the text after it, or `None` if no byte is left, or the number would leave `usize`.
 fn in_comment(text: &[u8], depth: usize) -> Option<(usize, &[u8])>
-    ensures { IfSome result (λ found. CommentStep (depth, text.now) (found.0, found.1.now)) }
+    ensures step { IfSome result
+        (λ found. CommentStep (depth, text.now) (found.0, found.1.now)) }
+    ensures none { IfNone result
+        ((text.now ≡ []) ⊎ ((depth ≡ 0) ⊎ (depth ≡ usize.MAX))) }
 {
     if let Some(rest) = after_two(text, b'*', b'/') {
         return match depth.checked_sub(1) {
@@ -251,7 +256,7 @@ fn after_lifetime(text: &[u8]) -> Option<&[u8]>
 }
 
 /// Returns the letters, digits and `_` that the text begins with, and the text after them.
-fn word_front(text: &[u8]) -> (&[u8], &[u8])
+pub(crate) fn word_front(text: &[u8]) -> (&[u8], &[u8])
     ensures { IsWordFront result.0.now text.now result.1.now }
 {
     let mut count = 0;
@@ -271,9 +276,19 @@ fn is_of_word(byte: u8) -> bool
 /// Returns the token that the text begins with, and the text after it. Fails with `LiteralOpen` if
 /// it is a literal that isn't closed, and with `AsciiExpected` if the text is empty or begins with
 /// a character beyond ASCII.
-#[tactic(auto, unfolding(crate::specs::Lexical::IsTokenAt))]
 fn token_front(text: &[u8]) -> Result<(&[u8], &[u8]), ProblemAt>
     ensures read { IfOk result (λ found. IsTokenAt found.0.now text.now found.1.now) }
+    ensures other { IfErr result (λ e. is_of_type e.problem ≡ false) }
+{
+    match raw_front(text)? {
+        Some(found) => Ok(found),
+        None => plain_front(text),
+    }
+}
+
+/// Does the same where no raw literal begins the text.
+fn plain_front(text: &[u8]) -> Result<(&[u8], &[u8]), ProblemAt>
+    ensures read { IfOk result (λ found. IsPlainAt found.0.now text.now found.1.now) }
     ensures other { IfErr result (λ e. is_of_type e.problem ≡ false) }
 {
     let (word, after) = word_front(text);

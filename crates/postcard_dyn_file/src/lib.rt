@@ -8,14 +8,15 @@
 //! | A declaration | What it stands for |
 //! |---|---|
 //! | `struct A;` | `()` |
-//! | `struct A(T, U);` | `(T, U)` |
+//! | `struct A(T, U);` | `(T, U)`, and also `(T)` for `struct A(T,);` |
 //! | `struct A { a: T, b: U }` | `{ a: T, b: U }`, or `()` if there are no fields |
 //! | `enum A { B, C(T), D { a: U } = 5 }` | `(\| B \| C(T) \| D { a: U })` |
 //! | `type A = T;` | `(T)` |
 //!
-//! Passed over are comments, attributes, lifetimes, `pub` and its scope, as `pub(crate)`, paths
-//! before a name, and the number of a variant, which is one word after `=`, or after `=` and `-`.
-//! An item ends with its first `;` or `}` outside of all brackets; one that doesn't begin with
+//! Passed over are comments, which may have others in them, attributes, lifetimes, `pub` and its
+//! scope, as `pub(crate)`, paths before a name, the comma after the last part of a tuple struct or a
+//! tuple variant, a comma before `>`, and the discriminant of a variant. That may be any expression: it
+//! ends with the first `,` outside of its brackets, or the `}` of the enum. An item ends with its first `;` or `}` outside of all brackets; one that doesn't begin with
 //! `struct`, `enum` or `type` is passed over. Types with parameters aren't supported. With its
 //! names replaced, a type has at most 65,536 words and signs, and in it names stand for one another
 //! at most 64 deep.
@@ -36,6 +37,7 @@ pub mod expand;
 pub mod kept;
 pub mod lex;
 pub mod place;
+mod raw;
 pub mod token;
 pub mod words;
 

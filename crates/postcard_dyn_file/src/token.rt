@@ -1,12 +1,16 @@
 //! The words, signs and literals of a file of declarations.
 
 ghost use Rattle.std.specs.Prelude.{◌≡◌, ◌+◌, Decides, IfSome, IfNone, slice_get};
-ghost use Rattle.postcard_dyn_file.specs.{IsAt, IsBefore, IsName, IsNameAt, Says};
+ghost use Rattle.std.specs.List.{AllPass};
+ghost use Rattle.postcard_dyn_file.specs.{BeginsName, IsAt, IsBefore, IsName, IsNameAt, Says};
+ghost use Rattle.postcard_dyn_file.specs.{is_of_word_byte};
+
+use crate::lex::word_front;
 
 /// A word, a sign or a literal of a file.
 #[derive(Clone, Copy, Debug)]
 pub struct Token<'a> {
-    /// Its bytes. A literal has its quotes.
+    /// Its bytes. A literal has its quotes, and a raw one its prefix and each `#`.
     pub text: &'a [u8],
     /// How many brackets are open around it. A bracket isn't around itself.
     pub depth: usize,
@@ -64,7 +68,7 @@ pub fn is_before(tokens: &[Token], at: usize, word: &[u8]) -> bool
     }
 }
 
-/// Returns whether the token at this index begins with a letter or `_`.
+/// Returns whether the token at this index is a word that begins with a letter or `_`.
 pub fn is_name_at(tokens: &[Token], at: usize) -> bool
     ensures { Decides result (IsNameAt tokens.now at) }
 {
@@ -74,10 +78,24 @@ pub fn is_name_at(tokens: &[Token], at: usize) -> bool
     }
 }
 
-fn is_name(word: &[u8]) -> bool
-    ensures { Decides result (IsName word.now) }
+/// Returns whether a text is letters, digits and `_`, and begins with no digit.
+fn is_name(text: &[u8]) -> bool
+    ensures { Decides result (IsName text.now) }
 {
-    match word.split_first() {
+    is_word(text) && begins_name(text)
+}
+
+fn is_word(text: &[u8]) -> bool
+    ensures { Decides result (AllPass is_of_word_byte text.now) }
+{
+    let (_, rest) = word_front(text);
+    rest.is_empty()
+}
+
+fn begins_name(text: &[u8]) -> bool
+    ensures { Decides result (BeginsName text.now) }
+{
+    match text.split_first() {
         Some((first, _)) => first.is_ascii_alphabetic() || *first == b'_',
         None => false,
     }

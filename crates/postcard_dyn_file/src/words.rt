@@ -1,9 +1,9 @@
 //! What the tokens of a declaration stand for, and which tokens it may begin and end with.
 
 ghost use Rattle.std.specs.Prelude.{◌≡◌, ◌<◌, true, false, length, Decides, IfErr, OnOk};
-ghost use Rattle.postcard_dyn_file.specs.{BeginsType, IsAliasText, IsDiscriminant, IsEnumText};
-ghost use Rattle.postcard_dyn_file.specs.{IsPlainText, IsSign, IsStructText, IsText, Opens};
-ghost use Rattle.postcard_dyn_file.specs.{is_of_type};
+ghost use Rattle.postcard_dyn_file.specs.{BeginsType, EndsDiscriminant, IsAliasText};
+ghost use Rattle.postcard_dyn_file.specs.{IsDiscriminant, IsEnumText, IsLastComma, IsPlainText};
+ghost use Rattle.postcard_dyn_file.specs.{IsSign, IsStructText, IsText, Opens, is_of_type};
 
 use crate::declaration::{Declaration, Kind};
 use crate::error::{FileProblem, ProblemAt};
@@ -71,13 +71,17 @@ fn struct_text<'a>(tokens: &[Token<'a>], at: usize) -> &'a [u8]
     requires { at < length tokens.now }
     ensures { IsStructText tokens.now at result.now }
 {
-    if !is_sign(tokens, at, 0, b";") {
-        return plain_text(tokens, at);
+    if is_sign(tokens, at, 0, b";") {
+        return if is_before(tokens, at, b")") {
+            b""
+        } else {
+            b"()"
+        };
     }
-    if is_before(tokens, at, b")") {
+    if is_last_comma(tokens, at, 1) {
         return b"";
     }
-    b"()"
+    plain_text(tokens, at)
 }
 
 fn alias_text<'a>(tokens: &[Token<'a>], at: usize) -> &'a [u8]
@@ -110,6 +114,9 @@ fn enum_text<'a>(tokens: &[Token<'a>], at: usize) -> &'a [u8]
             b"|"
         };
     }
+    if is_last_comma(tokens, at, 2) {
+        return b"";
+    }
     if is_discriminant(tokens, at) {
         return b"";
     }
@@ -138,12 +145,39 @@ fn is_sign(tokens: &[Token], at: usize, depth: usize, sign: &[u8]) -> bool
     tokens[at].depth == depth && tokens[at].says(sign)
 }
 
-/// Returns whether the token at the index is of the number of a variant: `=`, what follows it, or
-/// what follows a `-`.
-fn is_discriminant(tokens: &[Token], at: usize) -> bool
+/// Returns whether the token at the index is the comma after the last field of a tuple struct or a
+/// tuple variant, whose fields have so many brackets around them.
+fn is_last_comma(tokens: &[Token], at: usize, depth: usize) -> bool
+    requires { at < length tokens.now }
+    ensures { Decides result (IsLastComma depth tokens.now at) }
+{
+    is_sign(tokens, at, depth, b",") && is_at(tokens, at + 1, b")") && !is_before(tokens, at, b"(")
+}
+
+/// Returns whether the token at the index is of the discriminant of a variant: `=` or a token of the
+/// expression after it, which ends before the `,` or the `}` of the enum.
+pub(crate) fn is_discriminant(tokens: &[Token], at: usize) -> bool
     requires { at < length tokens.now }
     ensures { Decides result (IsDiscriminant tokens.now at) }
 {
-    tokens[at].depth == 1
-        && (is_at(tokens, at, b"=") || is_before(tokens, at, b"=") || is_before(tokens, at, b"-"))
+    let mut index = at + 1;
+    'back: while index > 0 {
+        index -= 1;
+        if ends_discriminant(tokens, index) {
+            return false;
+        }
+        if is_sign(tokens, index, 1, b"=") {
+            return true;
+        }
+    }
+    false
+}
+
+/// Returns whether no discriminant goes on at the index: whether the token there is outside of all
+/// brackets, or the `,` after a variant.
+fn ends_discriminant(tokens: &[Token], at: usize) -> bool
+    requires { at < length tokens.now }
+    ensures { Decides result (EndsDiscriminant tokens.now at) }
+{
+    tokens[at].depth == 0 || is_sign(tokens, at, 1, b",")
 }

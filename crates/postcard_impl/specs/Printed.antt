@@ -1,5 +1,6 @@
 -- The texts as which the failures of `pcard impl` are printed, and their exit status.
-use Rattle.std.specs.Prelude.{ℕ, List, codes}
+use Rattle.std.specs.Prelude.{◌≡◌, ◌⊎◌, ℕ, Option, List, [], ◌∷◌, ◌++◌, codes}
+use Rattle.std.specs.Io.KnownBytes.{Appends}
 use Rattle.postcard_dyn_file.specs.declared.error.FileProblem.TheVariants.{Expression}
 use Rattle.postcard_dyn_schema.specs.declared.error.Problem.TheVariants.{OutOfMemory}
 use Rattle.postcard_impl_error.specs.Printed.{impl_error_text}
@@ -22,3 +23,13 @@ impl_problem_status problem = 2
 abbrev pub impl_failure_status : ImplFailure → ℕ
 impl_failure_status (Wrong error) = impl_problem_status error.problem
 impl_failure_status failure = 2
+
+-- The failure is reported: the line with the path of the file and the failure is printed and the status is the failure's, or else the
+-- status is 3.
+abbrev pub Tells : List ℕ → ImplFailure → Option (List ℕ) → Option (List ℕ) → ℕ → Type 0
+Tells path failure old new status =
+    (status ≡ 3) ⊎ ((status ≡ impl_failure_status failure) × Appends old new (codes "pcard: " ++ (path ++ (codes ": " ++ (impl_failure_text failure ++ 10 ∷ [])))))
+
+-- A failure is reported so, or the status is 3.
+abbrev pub TellsPath : List ℕ → Option (List ℕ) → Option (List ℕ) → ℕ → Type 0
+TellsPath path old new status = (status ≡ 3) ⊎ ((failure : ImplFailure) × Tells path failure old new status)

@@ -1,7 +1,8 @@
 //! The call `pcard impl FILE`: what it prints, and its exit status.
 
 ghost use Rattle.std.specs.Prelude.{◌≡◌, ◌≢◌, ◌≤◌, ℕ, List, Some, IfOk, string_bytes};
-ghost use Rattle.postcard_impl.specs.{Appends, IsMarked, impl_failure_status, impl_failure_text};
+ghost use Rattle.postcard_impl.specs.{Appends, IsMarked, Tells, TellsPath, impl_failure_status};
+ghost use Rattle.postcard_impl.specs.{impl_failure_text};
 
 use crate::marks::{BEGIN, END};
 use crate::{Home, ImplError, ImplProblem, impl_file};
@@ -65,6 +66,9 @@ pub fn answer<W: Write, E: Write>(
         × Appends (W.contents output.old) (W.contents output.new) written }
     ensures nothing_printed { result ≢ 0 → result ≢ 3
         → W.contents output.new ≡ W.contents output.old }
+    ensures told { result ≢ 0 → TellsPath path.now
+        (E.contents errors.old) (E.contents errors.new) result }
+    ensures nothing_told { result ≡ 0 → E.contents errors.new ≡ E.contents errors.old }
 {
     match file_with_impls(alloc, path, bytes) {
         Ok(written) => {
@@ -74,13 +78,19 @@ pub fn answer<W: Write, E: Write>(
                 Err(_) => 3,
             }
         }
-        Err(failure) => {
-            let printed = writeln!(errors, "pcard: {path}: {failure}");
-            match printed.and(errors.flush()) {
-                Ok(()) => failure.status(),
-                Err(_) => 3,
-            }
-        }
+        Err(failure) => tell(path, failure, errors),
+    }
+}
+
+/// Prints a line that says what is wrong with the file with this path, and returns the exit status.
+fn tell<E: Write>(path: &str, failure: ImplFailure, errors: &mut E) -> u8
+    ensures { Tells path.now failure.entry
+        (E.contents errors.old) (E.contents errors.new) result }
+{
+    let printed = writeln!(errors, "pcard: {path}: {failure}");
+    match printed.and(errors.flush()) {
+        Ok(()) => failure.status(),
+        Err(_) => 3,
     }
 }
 

@@ -10,8 +10,8 @@
 //! Which impls a type has, and which types have none, `postcard_impl_text` says.
 #![tactic(auto)]
 
-ghost use Rattle.std.specs.Prelude.{◌≡◌, IfOk, IfErr, string_bytes};
-ghost use Rattle.postcard_impl.specs.{IsIn, IsMarked};
+ghost use Rattle.std.specs.Prelude.{◌≡◌, ◌-◌, ◌||◌, ltb, leb, length, IfOk, IfErr, string_bytes};
+ghost use Rattle.postcard_impl.specs.{IsIn, IsMarked, IsPlain, plain_byte};
 
 pub mod command;
 pub mod marks;
@@ -79,20 +79,37 @@ fn generated(
 
 /// Returns the bytes of the file, with blanks for what is between its marks, and `_` for each byte of a
 /// character beyond ASCII.
-fn plain(alloc: Global, file: &str, outside: Outside) -> Result<Vec<u8>, ImplProblemAt> {
+fn plain(alloc: Global, file: &str, outside: Outside) -> Result<Vec<u8>, ImplProblemAt>
+    ensures { IfOk result (λ plain. IsPlain (length outside.entry.before.now)
+        (length file.now - length outside.entry.after.now) file.now plain.items) }
+{
     let start = outside.before.len();
     let end = file.len().saturating_sub(outside.after.len());
+    let bytes = file.as_bytes();
     let mut plain = Vec::new(alloc);
-    for (at, byte) in file.as_bytes().iter().enumerate() {
-        let is_outside = at < start || at >= end;
-        plain.push(match *byte {
-            b'\n' => b'\n',
-            byte if is_outside && byte.is_ascii() => byte,
-            _ if is_outside => b'_',
-            _ => b' ',
-        })?;
+    for at in 0..bytes.len() {
+        plain.push(plain_byte(bytes[at], is_outside(at, start, end)))?;
     }
     Ok(plain)
+}
+
+/// Returns whether the index is before `start`, or not before `end`.
+fn is_outside(at: usize, start: usize, end: usize) -> bool
+    ensures { result ≡ (ltb at start || leb end at) }
+{
+    at < start || end <= at
+}
+
+/// Returns what a byte of the file stands for, outside of its marks or between them.
+fn plain_byte(byte: u8, is_outside: bool) -> u8
+    ensures { result ≡ plain_byte is_outside byte }
+{
+    match byte {
+        b'\n' => b'\n',
+        _ if !is_outside => b' ',
+        _ if byte.is_ascii() => byte,
+        _ => b'_',
+    }
 }
 
 /// Returns the error of what is wrong.

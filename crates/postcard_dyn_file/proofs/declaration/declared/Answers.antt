@@ -15,4 +15,4 @@ pub returns-in-Some-item_end-clause-found : goal.returns-in-Some-item_end-clause
 returns-in-Some-item_end-clause-found c =
     let here = slice_get-get_or c.args.tokens.now c.args.at no_token (omega arith) in
     let name = slice_get-get_or c.args.tokens.now (c.args.at + 1) no_token (omega arith) in
-    (search rules, (_, here, c.in-Some.ensures.found), name, search rules, refl, c.in-Some-item_end.ensures)
+    (search rules, (_, here, c.in-Some.ensures.found), name, search rules, refl, c.in-Some-item_end.ensures.found)

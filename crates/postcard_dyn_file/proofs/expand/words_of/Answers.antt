@@ -1,4 +1,4 @@
-use Rattle.std.proofs.Common.{◌≡◌, [], ◌∷◌, ◌++◌, ap, ◌∙◌, rules}
+use Rattle.std.proofs.Common.{◌≡◌, [], ◌∷◌, ◌++◌, length, ap, ◌∙◌, rules}
 use Rattle.std.proofs.lemmas.Result.{err_from_is_err_and}
 use Rattle.postcard_dyn_file.specs.Tokens.{spelling}
 use Rattle.postcard_dyn_file.proofs.Openings.{opened_by}
@@ -10,8 +10,8 @@ returns-in_err-write_declaration-clause-problem c =
     let p = err_from_is_err_and c.from_residual.result c.from_residual.ensures.1 in
     let pushed : c.push.new.self.items ≡ c.new-within.result.items ++ c.in-Some.declaration ∷ [] = search rules in
     let first = pushed ∙ ap (λ ds. ds ++ c.in-Some.declaration ∷ []) c.new-within.ensures.items in
-    rw (p.1, p.2) (λ is. problem_of_declaration c.args.tokens.now c.args.known.now _ c.args.name.now c.in-Some.declaration _ c.in-Some.ensures.found.0 c.in-Some.ensures.found.1
-    first is c.in_err-write_declaration.ensures.problem)
+    rw (p.1, p.2) (λ is. problem_of_declaration c.args.tokens.now c.args.known.now _ c.args.name.now c.in-Some.declaration _ _ c.in-Some.ensures.found.0 c.in-Some.ensures.found.1
+    first (ap length c.new-out.ensures.items) (c.in_err-write_declaration.ensures.problem is))
 
 pub returns-clause-spelled : goal.returns-clause-spelled
 returns-clause-spelled c =

@@ -1,0 +1,2 @@
+struct A(u8);
+const B: &str = r#"a"; // "

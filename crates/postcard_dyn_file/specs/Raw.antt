@@ -1,0 +1,35 @@
+-- Raw literals, in whose letters a `\` is one of them.
+use Rattle.std.specs.Prelude.{◌≡◌, ℕ, Bool, ◌==◌, false, ◌⊎◌, List, [], ◌∷◌, ◌++◌, codes}
+use Rattle.std.specs.List.{AllPass}
+use Rattle.postcard_dyn_file.specs.Steps.{Steps}
+use Rattle.postcard_dyn_file.specs.Tokens.{IsWordFront}
+
+-- The byte is `#`.
+abbrev pub is_hash : ℕ → Bool
+is_hash b = b == 35
+
+-- No `#` begins the text.
+abbrev pub EndsHashes : List ℕ → Type 0
+EndsHashes [] = Unit {0}
+EndsHashes (b ∷ text) = is_hash b ≡ false
+
+-- The text begins with these `#`, all that it begins with, or with none, and `rest` is left.
+abbrev pub IsHashFront : List ℕ → List ℕ → List ℕ → Type 0
+IsHashFront hashes text rest = AllPass is_hash hashes × EndsHashes rest × (text ≡ hashes ++ rest)
+
+-- The word is what a raw literal begins with.
+abbrev pub IsRawPrefix : List ℕ → Type 0
+IsRawPrefix word = (word ≡ codes "r") ⊎ ((word ≡ codes "br") ⊎ (word ≡ codes "cr"))
+
+-- The text begins with the prefix of a raw literal, these `#` and a quote, and `inner` is left.
+abbrev pub IsRawOpening : List ℕ → List ℕ → List ℕ → Type 0
+IsRawOpening hashes text inner = (word : List ℕ) × (after : List ℕ) × IsRawPrefix word × IsWordFront word text after × IsHashFront hashes after (34 ∷ inner)
+
+-- The text begins with bytes, up to the first quote that these `#` follow, and with both, and `rest` is left.
+abbrev pub IsRawQuoted : List ℕ → List ℕ → List ℕ → Type 0
+IsRawQuoted hashes text rest = (last : List ℕ)
+    × Steps (λ a b. ((letter : ℕ) × (a ≡ letter ∷ b)) × ((after : List ℕ) → a ≡ 34 ∷ hashes ++ after → ⊥)) text last × (last ≡ 34 ∷ hashes ++ rest)
+
+-- The text begins with a raw literal, which is the token, and `rest` is left.
+abbrev pub IsRaw : List ℕ → List ℕ → List ℕ → Type 0
+IsRaw token text rest = (hashes : List ℕ) × (inner : List ℕ) × IsRawOpening hashes text inner × IsRawQuoted hashes inner rest × (text ≡ token ++ rest)
