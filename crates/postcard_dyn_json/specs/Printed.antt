@@ -1,8 +1,13 @@
 -- The places of errors, and the texts as which errors are printed.
-use Rattle.std.specs.Prelude.{◌≡◌, ℕ, ◌+◌, ◌≤◌, ◌⊎◌, List, [], ◌∷◌, ◌++◌, codes, string_bytes, nat_eq, if◌then◌else◌}
+use Rattle.std.specs.Prelude.{◌≡◌, ℕ, ◌+◌, ◌≤◌, ◌⊎◌, List, [], ◌∷◌, ◌++◌, codes, string_bytes, nat_eq, if◌then◌else◌, Some}
+use Rattle.std.specs.List.{All}
 use Rattle.std.specs.Fmt.{decimal}
 use Rattle.postcard_dyn_schema.specs.Fixed.{name_of}
 use Rattle.postcard_dyn_schema.specs.LeafNames.{leaf_name}
+use Rattle.postcard_dyn_schema.specs.Names.{IsCalled, IsTakenIn}
+use Rattle.postcard_dyn_schema.specs.declared.schema.Schema.{Schema}
+use Rattle.serde_json.specs.Data.{Data}
+use Rattle.serde_json.specs.Find.{get}
 use Rattle.postcard_dyn_schema.specs.declared.schema.Leaf.{Leaf}
 use Rattle.postcard_dyn_schema.specs.declared.schema.Leaf.TheVariants as leaves
 use Rattle.postcard_dyn_schema.specs.Text.{characters}
@@ -28,6 +33,22 @@ IsAt path expected OutOfMemory = ⊥
 abbrev pub IsWithin : List ℕ → JsonError → JsonError → Type 0
 IsWithin step (NotAValue path expected) e = (e ≡ OutOfMemory) ⊎ IsAt (step ++ (dot_before (string_bytes path) ++ string_bytes path)) expected e
 IsWithin step OutOfMemory e = e ≡ OutOfMemory
+
+-- This is expected, unless memory is lacking.
+abbrev pub IsExpected : Expected → JsonError → Type 0
+IsExpected expected (NotAValue path what) = what ≡ expected
+IsExpected expected OutOfMemory = Unit {0}
+
+-- The JSON has a member for each field.
+abbrev pub HasMembers : List Schema → Data → Type 0
+HasMembers ss d = All (λ s. (name : List ℕ) → IsCalled name s → (e : Data) × (get name d ≡ Some e)) ss
+
+-- The error of an object with other members than the fields: a member is missing only if the JSON has none for that field, and one is
+-- unknown only if there is one for each field.
+abbrev pub IsLengthError : List Schema → Data → JsonError → Type 0
+IsLengthError ss d (NotAValue path places.Present) = IsTakenIn ss (string_bytes path) × ((e : Data) → get (string_bytes path) d ≡ Some e → ⊥)
+IsLengthError ss d (NotAValue path places.Absent) = HasMembers ss d
+IsLengthError ss d e = Unit {0}
 
 -- The last step of the path to a part: the name of a field, or an index.
 abbrev pub part_step : ℕ → Layout → List ℕ
@@ -70,6 +91,11 @@ json_error_text OutOfMemory = codes "out of memory"
 abbrev pub IsPlaceIn : List ℕ → JsonTextError → Type 0
 IsPlaceIn text (text_errors.NotAValue character path expected) = (1 ≤ character) × (character ≤ characters text + 1)
 IsPlaceIn text text_errors.OutOfMemory = Unit {0}
+
+-- The place is that of the character after n others, unless memory is lacking.
+abbrev pub IsPlaceAfter : ℕ → JsonTextError → Type 0
+IsPlaceAfter n (text_errors.NotAValue character path expected) = character ≡ n + 1
+IsPlaceAfter n text_errors.OutOfMemory = Unit {0}
 
 -- The text of an error of reading a text.
 abbrev pub text_error_text : JsonTextError → List ℕ

@@ -1,5 +1,6 @@
 //! JSON of values whose type is known only at run time: [`to_json`], [`from_json`], and from a text
-//! [`read_json`]. `docs/PCARD.md` has a table of the JSON of each type.
+//! [`read_json`]. [`json_text`] prints JSON without control characters. `docs/PCARD.md` has a table of
+//! the JSON of each type.
 //!
 //! An integer from 2^53 on is a string of its decimal digits, since many readers of JSON keep no
 //! greater numbers; either form is read. A float that is no finite number is a string in the
@@ -16,11 +17,14 @@
 pub mod error;
 pub mod leaf;
 mod place;
+pub mod print;
 pub mod read;
+mod skip;
 pub mod text;
 pub mod write;
 
 pub use error::{Expected, JsonError};
+pub use print::json_text;
 pub use read::from_json;
 pub use text::{JsonTextError, read_json};
 pub use write::to_json;

@@ -3,9 +3,10 @@
 ghost use Rattle.std.specs.Prelude.{◌≡◌, ℕ, ◌<◌, length, get_or, map, true, false, Some, IfOk};
 ghost use Rattle.std.specs.Prelude.{IfSome, IfNone, MatchResult};
 ghost use Rattle.postcard_dyn_json.specs.{Answers, AreItems, AreParts, Data, HasDistinctNames};
-ghost use Rattle.postcard_dyn_json.specs.{HasLength, HasNameOf, HaveDistinctNames};
-ghost use Rattle.postcard_dyn_json.specs.{IsContentReading, IsJsonOf, IsNewTo, IsPart, IsReading};
-ghost use Rattle.postcard_dyn_json.specs.{IsVariantJson, IsWithin, Present, Reads, Schema, Tree};
+ghost use Rattle.postcard_dyn_json.specs.{HasLength, HasMembers, HasNameOf, HaveDistinctNames};
+ghost use Rattle.postcard_dyn_json.specs.{IsContentReading, IsExpected, IsJsonOf, IsLengthError};
+ghost use Rattle.postcard_dyn_json.specs.{IsNewTo, IsPart, IsReading, IsTakenIn, IsVariantJson};
+ghost use Rattle.postcard_dyn_json.specs.{IsWithin, Present, Reads, Schema, Tree};
 ghost use Rattle.postcard_dyn_json.specs.{alone, get, items_view, json_of, layout_of, layouts_of};
 ghost use Rattle.postcard_dyn_json.specs.{part_of, part_step, reads, string, tree, trees, type_of};
 ghost use Rattle.postcard_dyn_json.specs.{types_of, view};
@@ -181,7 +182,9 @@ fn read_unit(alloc: Global, json: &Json) -> Result<Value, JsonError>
 /// Returns the error for JSON that isn't an object with as many members, or, if `named` is false,
 /// an array with as many items as there are parts. It names the first field that an object lacks,
 /// or else a member that is no field.
-fn length_error(alloc: Global, parts: &Vec<Schema>, json: &Json, named: bool) -> JsonError {
+fn length_error(alloc: Global, parts: &Vec<Schema>, json: &Json, named: bool) -> JsonError
+    ensures { IsLengthError parts.now.items (view json.now) result }
+{
     if !named {
         return JsonError::here(alloc, Expected::ArrayOf(parts.len()));
     }
@@ -201,7 +204,9 @@ fn length_error(alloc: Global, parts: &Vec<Schema>, json: &Json, named: bool) ->
 
 /// Returns the name of the first field that JSON has no member for, or `None` if it has all.
 fn missing<'a>(parts: &'a Vec<Schema>, json: &Json) -> Option<&'a str>
-    ensures { IfSome result (λ name. (e : Data) → get name.now (view json.now) ≡ Some e → ⊥) }
+    ensures some { IfSome result (λ name. IsTakenIn parts.now.items name.now
+        × ((e : Data) → get name.now (view json.now) ≡ Some e → ⊥)) }
+    ensures none { IfNone result (HasMembers parts.now.items (view json.now)) }
 {
     for part in parts {
         if let Schema::Named(name, _) = part {
@@ -228,7 +233,9 @@ fn has_field(parts: &Vec<Schema>, name: &[u8]) -> bool
 
 /// Returns the error of a member that is no field. Its name is left out if it isn't letters and digits
 /// of ASCII and `_`, so that no control character is printed.
-fn unknown(alloc: Global, name: &str) -> JsonError {
+fn unknown(alloc: Global, name: &str) -> JsonError
+    ensures { IsExpected Expected.Absent result }
+{
     let error = JsonError::here(alloc, Expected::Absent);
     let is_plain = |byte: &u8| byte.is_ascii_alphanumeric() || *byte == b'_';
     if name.as_bytes().iter().all(is_plain) {

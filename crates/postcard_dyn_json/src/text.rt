@@ -1,7 +1,8 @@
 //! Reading a value from a JSON text: [`read_json`].
 
-ghost use Rattle.std.specs.Prelude.{◌≡◌, Some, IfOk, IfErr, MatchResult};
-ghost use Rattle.postcard_dyn_json.specs.{HasDistinctNames, IsJsonText, IsMemory, IsPlaceIn, Tree};
+ghost use Rattle.std.specs.Prelude.{◌≡◌, ◌-◌, Some, IfOk, IfErr, MatchResult, length, take};
+ghost use Rattle.postcard_dyn_json.specs.{Category, HasDistinctNames, IsJsonText, IsMemory};
+ghost use Rattle.postcard_dyn_json.specs.{IsPlaceAfter, IsPlaceIn, Tree, category, characters};
 ghost use Rattle.postcard_dyn_json.specs.{layout_of, reads, text_error_text, tree, type_of};
 ghost use Rattle.postcard_dyn_json.specs.declared.error.JsonError.TheVariants as errors;
 
@@ -74,7 +75,7 @@ pub fn read_json(alloc: Global, schema: &Schema, text: &str) -> Result<Value, Js
     };
     match from_json(alloc, schema, &json) {
         Ok(value) => Ok(value),
-        Err(error) => Err(error_in(text, error)),
+        Err(error) => Err(error_in(alloc, text, error)),
     }
 }
 
@@ -82,6 +83,8 @@ pub fn read_json(alloc: Global, schema: &Schema, text: &str) -> Result<Value, Js
 fn syntax_error(alloc: Global, text: &str, error: &Error) -> JsonTextError
     ensures place { IsPlaceIn text.now result }
     ensures memory { IsMemory error.now → result ≡ JsonTextError.OutOfMemory }
+    ensures end { category error.now ≡ Category.Eof
+        → IsPlaceAfter (characters text.now) result }
 {
     if error.is_memory() {
         return JsonTextError::OutOfMemory;
@@ -95,14 +98,16 @@ fn syntax_error(alloc: Global, text: &str, error: &Error) -> JsonTextError
 }
 
 /// Returns the error for JSON that is no value of the schema.
-fn error_in(text: &str, error: JsonError) -> JsonTextError
+fn error_in(alloc: Global, text: &str, error: JsonError) -> JsonTextError
     ensures place { IsPlaceIn text.now result }
     ensures memory { error ≡ errors.OutOfMemory → result ≡ JsonTextError.OutOfMemory }
 {
     match error {
         JsonError::NotAValue { path, expected } => {
-            let left = from_part(text.as_bytes(), path.as_bytes()).len();
-            not_a_value(text, left, path, expected)
+            match from_part(alloc, text.as_bytes(), path.as_bytes()) {
+                Ok(rest) => not_a_value(text, rest.len(), path, expected),
+                Err(_) => JsonTextError::OutOfMemory,
+            }
         }
         JsonError::OutOfMemory => JsonTextError::OutOfMemory,
     }
@@ -112,6 +117,7 @@ fn error_in(text: &str, error: JsonError) -> JsonTextError
 /// end of the text.
 fn not_a_value(text: &str, left: usize, path: String, expected: Expected) -> JsonTextError
     ensures place { IsPlaceIn text.now result }
+    ensures after { IsPlaceAfter (characters (take (length text.now - left) text.now)) result }
 {
     JsonTextError::NotAValue {
         character: character_of(text.as_bytes(), left),
