@@ -1,6 +1,7 @@
 /* Loaded into a program by LD_PRELOAD, it watches the program's allocations, if WATCH_PROGRAM is the program's name:
  *
  * - The allocation with the number WATCH_REFUSE, counted from 1, is refused, and a byte is added to the file WATCH_REFUSED.
+ *   So is each of more than WATCH_LARGEST bytes.
  * - If a block isn't freed at the end, the program ends with the status 97. With WATCH_KEPT blocks may be kept.
  *
  * It includes no header, so that a compiler without any can build it. */
@@ -26,7 +27,7 @@ enum { WRITE_ONLY = 01, APPEND = 02000, LEAKED = 97 };
 
 static struct {
     int watches;
-    unsigned long refuse, requests;
+    unsigned long refuse, requests, largest;
     long held;
 } state;
 
@@ -36,9 +37,9 @@ static void say(int file, const char *text) {
     if (write(file, text, size) < 0) _exit(LEAKED);
 }
 
-/* Returns whether the next allocation is the one to refuse. */
-static int refused(void) {
-    if (!state.watches || ++state.requests != state.refuse) return 0;
+/* Returns whether the next allocation, of this size, is one to refuse. */
+static int refused(size_t size) {
+    if (!state.watches || (++state.requests != state.refuse && size <= state.largest)) return 0;
     const char *path = getenv("WATCH_REFUSED");
     int file = path ? open(path, WRITE_ONLY | APPEND) : -1;
     if (file < 0) _exit(LEAKED);
@@ -53,11 +54,11 @@ static void *held(void *block) {
     return block;
 }
 
-void *malloc(size_t size) { return refused() ? 0 : held(__libc_malloc(size)); }
+void *malloc(size_t size) { return refused(size) ? 0 : held(__libc_malloc(size)); }
 
-void *calloc(size_t count, size_t size) { return refused() ? 0 : held(__libc_calloc(count, size)); }
+void *calloc(size_t count, size_t size) { return refused(count * size) ? 0 : held(__libc_calloc(count, size)); }
 
-void *memalign(size_t alignment, size_t size) { return refused() ? 0 : held(__libc_memalign(alignment, size)); }
+void *memalign(size_t alignment, size_t size) { return refused(size) ? 0 : held(__libc_memalign(alignment, size)); }
 
 void *aligned_alloc(size_t alignment, size_t size) { return memalign(alignment, size); }
 
@@ -77,12 +78,14 @@ void *realloc(void *block, size_t size) {
         free(block);
         return 0;
     }
-    return refused() ? 0 : __libc_realloc(block, size);
+    return refused(size) ? 0 : __libc_realloc(block, size);
 }
 
 __attribute__((constructor)) static void begin(void) {
     const char *program = getenv("WATCH_PROGRAM"), *refuse = getenv("WATCH_REFUSE");
+    const char *largest = getenv("WATCH_LARGEST");
     state.refuse = refuse ? strtoul(refuse, 0, 10) : 0;
+    state.largest = largest ? strtoul(largest, 0, 10) : (size_t)-1;
     state.watches = program && !strcmp(program, program_invocation_short_name);
 }
 

@@ -10,7 +10,7 @@ use std::collections::BTreeMap;
 use std::fmt::Debug;
 use types::{
     Change, Chunk, Command, Heartbeat, Label, Level, Measured, Position, Rain, Report, Request,
-    Serial, Sky, Telemetry,
+    Serial, Sky, Taken, Telemetry,
 };
 
 /// Prints the bytes of a value, and what they are read as.
@@ -31,6 +31,18 @@ fn example_place() -> Position {
         latitude: 481_234_567,
         longitude: -1,
         altitude: -3,
+    }
+}
+
+/// Returns a row whose fields have names that are taken.
+fn example_row() -> Taken {
+    Taken::Row {
+        alloc: 300,
+        d: 128,
+        serializer: 7,
+        row: 5,
+        parts: 0,
+        result: 255,
     }
 }
 
@@ -82,6 +94,8 @@ fn show_parts(rt: &HostRuntime) -> Result<()> {
     there_and_back(rt, &Rain(3600, Some(-2)))?;
     there_and_back(rt, &Level::Normal)?;
     there_and_back(rt, &Sky::Cloudy(5))?;
+    there_and_back(rt, &Taken::Last { never: true })?;
+    there_and_back(rt, &example_row())?;
     there_and_back(rt, &example_report(rt.alloc())?)?;
     there_and_back(rt, &example_telemetry(rt.alloc())?)
 }

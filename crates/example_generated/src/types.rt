@@ -55,6 +55,31 @@ pub enum Sky {
     },
 }
 
+/// What a logger keeps, by names that the impls have for their own variables.
+#[derive(Debug, Drop)]
+pub enum Taken {
+    /// The last of all.
+    Last {
+        /// No more follow.
+        never: bool,
+    },
+    /// One of many.
+    Row {
+        /// Bytes that are kept for it.
+        alloc: u32,
+        /// The day.
+        d: u16,
+        /// Who wrote it.
+        serializer: u8,
+        /// Its number.
+        row: u32,
+        /// How many parts it has.
+        parts: u8,
+        /// What came out.
+        result: u8,
+    },
+}
+
 /// What a station saw in a day.
 #[derive(Debug, Drop)]
 pub struct Report {
@@ -464,6 +489,70 @@ impl<'de> postcard::Deserialize<'de> for Sky {
 }
 
 impl postcard::DeserializeOwned for Sky {
+    fn deserialize_owned<F: postcard::de_flavors::Flavor>(
+        alloc: std::alloc::Global,
+        d: &mut postcard::Deserializer<'_, F>,
+    ) -> postcard::Result<Self> {
+        postcard::Deserialize::deserialize(alloc, d)
+    }
+}
+
+/// What the variants of [`Taken`] hold, in a row.
+type TakenRow = postcard::Case<bool, postcard::Case<(u32, u16, u8, u32, u8, u8), postcard::NoCase>>;
+
+impl postcard::Shaped for Taken {
+    ghost use Rattle.example_generated.specs.declared.types.Taken.{Taken};
+    ghost use Rattle.postcard_shape.specs.Shape.{via};
+    ghost use Rattle.postcard_shape.specs.declared.cases.Case.TheVariants.{This, Next};
+
+    ghost shape = { via (elim [
+      | Taken.Last x0 ↦ This x0
+      | Taken.Row x0 x1 x2 x3 x4 x5 ↦ Next (This (x0, x1, x2, x3, x4, x5))
+    ]) ⟦<TakenRow as postcard::Shaped>⟧.shape };
+}
+
+impl postcard::Serialize for Taken {
+    fn serialize<F: postcard::ser_flavors::Flavor>(
+        &self,
+        serializer: &mut postcard::Serializer<F>,
+    ) -> postcard::Result<()> {
+        match self {
+            Taken::Last { never: x0 } => postcard::write_variant(self, 0, x0, serializer),
+            Taken::Row {
+                alloc: x0,
+                d: x1,
+                serializer: x2,
+                row: x3,
+                parts: x4,
+                result: x5,
+            } => postcard::write_variant(self, 1, &(x0, x1, x2, x3, x4, x5), serializer),
+        }
+    }
+}
+
+impl<'de> postcard::Deserialize<'de> for Taken {
+    fn deserialize<F: postcard::de_flavors::Flavor>(
+        alloc: std::alloc::Global,
+        d: &mut postcard::Deserializer<'de, F>,
+    ) -> postcard::Result<Self> {
+        use postcard::Case::{Next, This};
+        let row: TakenRow = postcard::Deserialize::deserialize(alloc, d)?;
+        Ok(match row {
+            This(x0) => Taken::Last { never: x0 },
+            Next(This((x0, x1, x2, x3, x4, x5))) => Taken::Row {
+                alloc: x0,
+                d: x1,
+                serializer: x2,
+                row: x3,
+                parts: x4,
+                result: x5,
+            },
+            Next(Next(never)) => match never {},
+        })
+    }
+}
+
+impl postcard::DeserializeOwned for Taken {
     fn deserialize_owned<F: postcard::de_flavors::Flavor>(
         alloc: std::alloc::Global,
         d: &mut postcard::Deserializer<'_, F>,

@@ -53,7 +53,6 @@ expected_text (expectations.Leaf l) = leaf_name l
 expected_text expectations.Option = codes "an option: 00 or 01"
 expected_text expectations.Count = codes "the number of elements"
 expected_text expectations.Variant = codes "the index of a variant"
-expected_text expectations.Element = codes "an element"
 
 -- What a line's bytes are, or `None` if nothing is said of the text of a value, as for `dec`.
 abbrev pub kind_text : LineKind → Option (List ℕ)

@@ -16,17 +16,18 @@ use Rattle.postcard_dyn_schema.specs.Meaning.{type_of, reads}
 use Rattle.postcard_dyn.specs.Tree.{tree}
 use Rattle.postcard_dyn.specs.declared.value.Value.{Value}
 use Rattle.postcard_dyn_text.specs.Shown.{layout_of}
+use Rattle.postcard_dyn_json.specs.Escaped.{escaped}
 use Rattle.postcard_dyn_json.specs.Reading.{IsJsonText}
 use Rattle.postcard_dyn_json.specs.Written.{json_of}
 use Rattle.postcard_cli.specs.Message.{ReadsValue, StandsFor}
 use Rattle.postcard_cli.specs.Reason.{reason_text}
 
--- The text is the JSON (RFC 8259) of this data, without blanks: its items and members are in order, each once, and it is read as the
--- data, if this nests at most 127 deep. Of the digits of a float only that is said.
+-- The text is the JSON (RFC 8259) of this data, without blanks and with control characters as escapes: its items and members are in
+-- order, each once, and it is read as the data, if this nests at most 127 deep. Of the digits of a float only that is said.
 pub record IsCompactText (d : Data) (text : List ℕ) : Type 0 where
-  pub compact : text ≡ print (tokens text)
+  pub compact : text ≡ escaped (print (tokens text))
   pub in_order : IsInOrder text d
-  pub exact : has_float d ≡ false → text ≡ compact_text d
+  pub exact : has_float d ≡ false → text ≡ escaped (compact_text d)
   pub reads_back : depth d ≤ max_depth → read text ≡ Some d
 
 -- The member of the bytes that are left after a value: none, if there are none.

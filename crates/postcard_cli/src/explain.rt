@@ -105,8 +105,8 @@ fn print_lines<W: Write>(
     Ok(())
 }
 
-/// Returns the layout of lines: offsets of as few bytes as the number of all bytes takes, and a
-/// column of bytes that is as wide as the widest, cut.
+/// Returns the layout of lines: offsets of as few bytes as the number of all bytes takes, which is
+/// the offset after them, and a column of bytes that is as wide as the widest, cut.
 fn layout_of(lines: &Vec<Line<'_>>, all: bool) -> Layout
     ensures { result.all ≡ all }
 {
@@ -117,9 +117,9 @@ fn layout_of(lines: &Vec<Line<'_>>, all: bool) -> Layout
         longest = longest.max(line.bytes.len());
     }
     let offset = match count {
-        0..=0x100 => 1,
-        0x101..=0x1_0000 => 2,
-        0x1_0001..=0x1_0000_0000 => 4,
+        0..=0xff => 1,
+        0x100..=0xffff => 2,
+        0x1_0000..=0xffff_ffff => 4,
         _ => 8,
     };
     Layout {
@@ -334,6 +334,5 @@ pub fn words_of(expected: Expected) -> &'static str
         Expected::Option => "an option: 00 or 01",
         Expected::Count => "the number of elements",
         Expected::Variant => "the index of a variant",
-        Expected::Element => "an element",
     }
 }

@@ -17,7 +17,7 @@ use arrayvec::ArrayVec;
 use postcard_de_flavors::Reader;
 use postcard_dyn::{RefusedPart, Schema, Value, refused_at, take_from_bytes, to_flavor};
 use postcard_dyn_json::error::colon_after;
-use postcard_dyn_json::{JsonTextError, read_json, to_json};
+use postcard_dyn_json::{JsonTextError, json_text, read_json, to_json};
 use postcard_ser_flavors::HVec;
 use postcard_wire::Error;
 use serde_json::Value as Json;
@@ -256,7 +256,7 @@ pub fn text_of(alloc: Global, schema: &Schema, value: &Value) -> Result<String, 
     let Some(json) = to_json(alloc, schema, value)? else {
         return Err(Failure::from(Error::WontImplement));
     };
-    let text = json.to_string(alloc)?;
+    let text = json_text(alloc, &json)?;
     Ok(text)
 }
 

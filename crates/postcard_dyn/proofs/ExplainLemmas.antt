@@ -1,8 +1,9 @@
 -- Lemmas on lines that explain bytes: what they spell, and walks one after another.
 use Rattle.std.proofs.Common.{◌≡◌, ℕ, zero, suc, ◌+◌, ◌<◌, ◌≤◌, ◌^◌, List, [], ◌∷◌, ◌++◌, length, take, Result, Ok, Err, refl, sym, ◌∙◌, ap, subst, arith, inl, inr, append_assoc, append-nil, rules}
-use Rattle.std.specs.Prelude.{⊤}
+use Rattle.std.specs.Prelude.{◌≢◌, ◌-◌, min}
 use Rattle.std.specs.Borrow.{Bor}
 use Rattle.postcard_wire.specs.declared.error.Error.{Error}
+use Rattle.postcard_wire.specs.declared.error.Error.TheVariants.{OutOfMemory}
 use Rattle.postcard_wire.specs.Tree.{Tree, Trees, Num, Absent, Present, Seq, Group, Variant, NoTrees, Then, count}
 use Rattle.postcard_wire.specs.Spelling.{Spells, SpellsAll}
 use Rattle.postcard_wire.specs.Number.{SpellsNum}
@@ -12,11 +13,14 @@ use Rattle.postcard_dyn_schema.specs.declared.schema.Schema.{Schema, the_lemmas}
 use Rattle.postcard_dyn_schema.specs.declared.schema.Schema.TheVariants as schemas
 use Rattle.postcard_dyn_schema.specs.Meaning.{MessageType, type_of, types_of, reads, reads_all, reads_at, option, seq, array, group, choice}
 use Rattle.postcard_dyn_schema.specs.Lemmas.{type_at}
+use Rattle.postcard_dyn.specs.declared.explain.Expected.{Expected}
 use Rattle.postcard_dyn.specs.declared.explain.Label.{Label}
-use Rattle.postcard_dyn.specs.declared.explain.Label.TheVariants.{Whole}
+use Rattle.postcard_dyn.specs.declared.explain.Label.TheVariants.{Whole, Element}
+use Rattle.postcard_dyn.specs.declared.explain.LineKind.TheVariants.{Refused}
 use Rattle.postcard_dyn.specs.declared.explain.Line.{Line}
-use Rattle.postcard_dyn.specs.Explained.{bytes_of, SpellsEach, FrontSpells, Opens, Explains, ExplainsElements, ExplainsParts, Adds, Stops, Walks, IsLast, IsExplained}
+use Rattle.postcard_dyn.specs.Explained.{bytes_of, SpellsEach, FrontSpells, Opens, Explains, ExplainsElements, ExplainsMore, ExplainsParts, Adds, Stops, Walks, IsAt, IsLast, IsMore, IsExplained}
 use Rattle.postcard_dyn.specs.Explained as rule
+use Rattle.postcard_dyn.specs.RefusedLines.{IsRefusal, RefusesElements, RefusesMore, in_element}
 
 -- ---- bytes of lines
 
@@ -132,20 +136,29 @@ adds_both P Q R joins old mid new bytes rest after (a, p, is, e) (b, q, was, f) 
 )
 
 -- A walk that stops after lines were added.
-pub stops_on : (P : List Line → Type 0) (old mid new : List Line) (bytes rest : List ℕ) (e : Error) → Adds P old bytes mid rest → Stops mid rest new e → Stops old bytes new e
-stops_on P old mid new bytes rest e a s = (s.0, λ other. adds_both P (λ ls. ⊤) (λ ls. ⊤) (λ x y p q. tt) old mid new bytes rest [] a (s.1 other))
+pub stops_on : (P T S : List Line → Type 0) → ((a b : List Line) → P a → T b → S (a ++ b)) → (old mid new : List Line) (bytes rest : List ℕ) (e : Error)
+    → Adds P old bytes mid rest → Stops T mid rest new e → Stops S old bytes new e
+stops_on P T S joins old mid new bytes rest e a s = (s.0, λ other. adds_both P T S joins old mid new bytes rest [] a (s.1 other))
 
 -- A walk after lines were added.
-pub walks_on : (P Q R : List Line → Type 0) → ((a b : List Line) → P a → Q b → R (a ++ b)) → (old mid new : List Line) (bytes rest : List ℕ)
-    (r : Result (Bor (List ℕ)) Error) → Adds P old bytes mid rest → Walks Q mid rest new r → Walks R old bytes new r
-walks_on P Q R joins old mid new bytes rest (Ok v) a w = adds_both P Q R joins old mid new bytes rest v.now a w
-walks_on P Q R joins old mid new bytes rest (Err e) a w = stops_on P old mid new bytes rest e a w
+pub walks_on : (P Q R T S : List Line → Type 0) → ((a b : List Line) → P a → Q b → R (a ++ b)) → ((a b : List Line) → P a → T b → S (a ++ b))
+    → (old mid new : List Line) (bytes rest : List ℕ) (r : Result (Bor (List ℕ)) Error) → Adds P old bytes mid rest → Walks Q T mid rest new r → Walks R S old bytes new r
+walks_on P Q R T S joins stops old mid new bytes rest (Ok v) a w = adds_both P Q R joins old mid new bytes rest v.now a w
+walks_on P Q R T S joins stops old mid new bytes rest (Err e) a w = stops_on P T S stops old mid new bytes rest e a w
 
--- A walk that adds lines of one kind adds lines of another.
-pub walks_as : (P Q : List Line → Type 0) → ((a : List Line) → P a → Q a) → (old new : List Line) (bytes : List ℕ) (r : Result (Bor (List ℕ)) Error)
-    → Walks P old bytes new r → Walks Q old bytes new r
-walks_as P Q f old new bytes (Ok v) (a, p, is, e) = (a, f a p, is, e)
-walks_as P Q f old new bytes (Err e) w = w
+-- A walk that adds lines of some kinds adds lines of others.
+pub walks_as : (P Q T S : List Line → Type 0) → ((a : List Line) → P a → Q a) → ((a : List Line) → T a → S a) → (old new : List Line) (bytes : List ℕ)
+    (r : Result (Bor (List ℕ)) Error) → Walks P T old bytes new r → Walks Q S old bytes new r
+walks_as P Q T S f g old new bytes (Ok v) (a, p, is, e) = (a, f a p, is, e)
+walks_as P Q T S f g old new bytes (Err e) (known, w) = (known, λ other. let k = w other in (k.0, g k.0 k.1, k.2, k.3))
+
+-- A walk that stops at once adds the line of a part that can't be read.
+pub refused_as : (P S : List Line → Type 0) (depth : ℕ) (label : Label) (expected : Expected) (error : Error) (old new : List Line) (bytes : List ℕ)
+    (r : Result (Bor (List ℕ)) Error)
+    → ((line : Line) → IsAt depth label line → line.kind ≡ Refused expected → line.bytes.now ≡ bytes → error ≢ OutOfMemory → S (line ∷ []))
+    → Walks (λ ls. ⊥) (IsRefusal depth label expected bytes error) old bytes new r → Walks P S old bytes new r
+refused_as P S depth label expected error old new bytes r f w =
+    walks_as (λ ls. ⊥) P (IsRefusal depth label expected bytes error) S (λ a q. absurd q) (λ a q. subst S (sym q.4) (f q.0 q.1 q.2 q.3 q.5)) old new bytes r w
 
 -- A line is added for a front.
 pub pushed : (P : List Line → Type 0) (line : Line) (old new : List Line) (bytes front rest : List ℕ) → P (line ∷ []) → new ≡ old ++ line ∷ []
@@ -154,18 +167,20 @@ pushed P line old new bytes front rest p is seen e =
     (line ∷ [], p, is, e ∙ ap (λ q. q ++ rest) (sym seen ∙ sym (append-nil line.bytes.now)))
 
 -- A line is added for a front, and a walk goes on after it.
-pub pushed_on : (Q R : List Line → Type 0) (line : Line) (old mid new : List Line) (bytes front rest : List ℕ) (r : Result (Bor (List ℕ)) Error)
-    → ((b : List Line) → Q b → R (line ∷ b)) → mid ≡ old ++ line ∷ [] → line.bytes.now ≡ front → bytes ≡ front ++ rest → Walks Q mid rest new r → Walks R old bytes new r
-pushed_on Q R line old mid new bytes front rest r joins is shown e w =
-    walks_on (λ ls. ls ≡ line ∷ []) Q R (λ a b p q. subst (λ ls. R (ls ++ b)) (sym p) (joins b q)) old mid new bytes rest r
-    (pushed (λ ls. ls ≡ line ∷ []) line old mid bytes front rest refl is shown e) w
+pub pushed_on : (Q R T S : List Line → Type 0) (line : Line) (old mid new : List Line) (bytes front rest : List ℕ) (r : Result (Bor (List ℕ)) Error)
+    → ((b : List Line) → Q b → R (line ∷ b)) → ((b : List Line) → T b → S (line ∷ b)) → mid ≡ old ++ line ∷ [] → line.bytes.now ≡ front → bytes ≡ front ++ rest
+    → Walks Q T mid rest new r → Walks R S old bytes new r
+pushed_on Q R T S line old mid new bytes front rest r joins stops is shown e w =
+    walks_on (λ ls. ls ≡ line ∷ []) Q R T S (λ a b p q. subst (λ ls. R (ls ++ b)) (sym p) (joins b q)) (λ a b p q. subst (λ ls. S (ls ++ b)) (sym p) (stops b q))
+    old mid new bytes rest r (pushed (λ ls. ls ≡ line ∷ []) line old mid bytes front rest refl is shown e) w
 
 -- What opens the parts of a value is added, and a walk goes on after it.
-pub opened_on : (Q R : List Line → Type 0) (depth inner : ℕ) (label : Label) (head old mid new : List Line) (bytes : List ℕ) (r : Result (Bor (List ℕ)) Error)
-    → Opens depth label inner head → ((b : List Line) → Q b → R (head ++ b)) → mid ≡ old ++ head → Walks Q mid bytes new r → Walks R old bytes new r
-opened_on Q R depth inner label head old mid new bytes r o joins is w =
-    walks_on (λ ls. ls ≡ head) Q R (λ a b p q. subst (λ ls. R (ls ++ b)) (sym p) (joins b q)) old mid new bytes bytes r
-    (head, refl, is, ap (λ p. p ++ bytes) (sym (opens_nothing depth label inner head o))) w
+pub opened_on : (Q R T S : List Line → Type 0) (depth inner : ℕ) (label : Label) (head old mid new : List Line) (bytes : List ℕ) (r : Result (Bor (List ℕ)) Error)
+    → Opens depth label inner head → ((b : List Line) → Q b → R (head ++ b)) → ((b : List Line) → T b → S (head ++ b)) → mid ≡ old ++ head → Walks Q T mid bytes new r
+    → Walks R S old bytes new r
+opened_on Q R T S depth inner label head old mid new bytes r o joins stops is w =
+    walks_on (λ ls. ls ≡ head) Q R T S (λ a b p q. subst (λ ls. R (ls ++ b)) (sym p) (joins b q)) (λ a b p q. subst (λ ls. S (ls ++ b)) (sym p) (stops b q))
+    old mid new bytes bytes r (head, refl, is, ap (λ p. p ++ bytes) (sym (opens_nothing depth label inner head o))) w
 
 -- ---- what a line's bytes spell
 
@@ -173,6 +188,41 @@ opened_on Q R depth inner label head old mid new bytes r o joins is w =
 pub each_more : (t : MessageType) (n : ℕ) (tree : Tree) (done front : List ℕ) → SpellsEach t n done → reads t tree → Spells tree front → SpellsEach t (n + 1) (done ++ front)
 each_more t n tree done front a r s =
     (join a.0 (Then tree NoTrees), (omega (arith, count_join a.0 (Then tree NoTrees), a.1.0), each_join _ a.0 _ a.1.1 (r, tt)), all_join a.0 _ _ _ a.2 (alone tree _ s))
+
+-- The line for elements, or none for none, has their bytes.
+none_spelled : (t : MessageType) (p : List ℕ) → SpellsEach t 0 p → p ≡ []
+none_spelled t p (NoTrees, are, e) = e
+none_spelled t p (Then x ts, are, s) = absurd (omega (arith, are.0))
+
+pub more_bytes : (depth : ℕ) (label : Label) (t : MessageType) (n : ℕ) (done : List ℕ) (lines : List Line) → SpellsEach t n done → IsMore depth label n done lines
+    → bytes_of lines ≡ done
+more_bytes depth label t n done lines s (inl (none, is)) = rw is (sym (none_spelled t done (rw none at s)))
+more_bytes depth label t n done lines s (inr (line, some, at, kind, shown, is)) = rw is (append-nil line.bytes.now ∙ shown)
+
+pub more_explained : (depth : ℕ) (label : Label) (s : Schema) (n : ℕ) (done : List ℕ) (lines : List Line) → SpellsEach (type_of s) n done
+    → IsMore depth label n done lines → ExplainsMore depth label s n lines
+more_explained depth label s n done lines spells h =
+    let same : bytes_of lines ≡ done = more_bytes depth label (type_of s) n done lines spells h in
+    (rw same h, rw same spells)
+
+-- The elements from number `most` on, after those before.
+pub elements_more : (most depth : ℕ) (s : Schema) (i n : ℕ) (a b : List Line) → i ≡ min n most → ExplainsElements most depth s i a
+    → ExplainsMore depth (Element most) s (n - most) b → ExplainsElements most depth s n (a ++ b)
+elements_more most depth s i n a b end h (inl (none, is), each) =
+    let all : i ≡ n = omega arith in
+    rw (is, append-nil a) (subst (λ k. ExplainsElements most depth s k a) all h)
+elements_more most depth s i n a b end h (inr (line, some, at, kind, shown, is), each) =
+    let full : i ≡ most = omega arith in
+    let all : i + (n - most) ≡ n = omega arith in
+    let at_own : IsAt depth (Element i) line = subst (λ k. IsAt depth (Element k) line) (sym full) at in
+    rw is (subst (λ k. ExplainsElements most depth s k (a ++ line ∷ [])) all
+    (rule.more_elements depth s i (n - most) a line full some h at_own kind (rw (is, append-nil line.bytes.now) at each)))
+
+pub refuses_more : (most depth : ℕ) (s : Schema) (i n : ℕ) (a b : List Line) → i ≡ min n most → ExplainsElements most depth s i a → RefusesMore most depth s n b
+    → RefusesElements most depth s n (a ++ b)
+refuses_more most depth s i n a b end h (j, head, more, from, low, m, r, is) =
+    let here : i ≡ min j most = omega arith in
+    rw (is, ← append_assoc a head more) (in_element depth s n j (a ++ head) more low (elements_more most depth s i j a head here h m) r)
 
 num_same : (w n m : ℕ) → Num w n ≡ Num w m → n ≡ m
 num_same w n m e = cc

@@ -1,5 +1,5 @@
 -- Which lines explain the bytes of a value.
-use Rattle.std.specs.Prelude.{◌≡◌, ◌≢◌, ℕ, ◌+◌, ◌-◌, ◌^◌, ◌<◌, ◌⊎◌, ⊤, min, List, [], ◌∷◌, ◌++◌, length, get_or, Vec, Box, Result, MatchResult, string_bytes}
+use Rattle.std.specs.Prelude.{◌≡◌, ◌≢◌, ℕ, ◌+◌, ◌-◌, ◌^◌, ◌<◌, ◌⊎◌, min, List, [], ◌∷◌, ◌++◌, length, get_or, Vec, Box, Result, MatchResult, string_bytes}
 use Rattle.std.specs.Borrow.{Bor}
 use Rattle.std.specs.declared.alloc.Global.{Global}
 use Rattle.std.specs.declared.string.String.{String}
@@ -119,10 +119,15 @@ mutual
     one_part : (depth : ℕ) (ss : List Schema) (s : Schema) (lines more : List Line) → ExplainsParts most depth ss lines → Explains most depth (Part (length ss)) s more
         → ExplainsParts most depth (ss ++ s ∷ []) (lines ++ more)
 
--- The lines are one for n elements.
+-- The lines are one for n elements with these bytes, or none if there are no elements.
+abbrev pub IsMore : ℕ → Label → ℕ → List ℕ → List Line → Type 0
+IsMore depth label n bytes lines =
+    ((n ≡ 0) × (lines ≡ []))
+    ⊎ ((line : Line) × (0 < n) × IsAt depth label line × (line.kind ≡ MoreElements n) × (line.bytes.now ≡ bytes) × (lines ≡ line ∷ []))
+
+-- The same of elements that the bytes spell.
 abbrev pub ExplainsMore : ℕ → Label → Schema → ℕ → List Line → Type 0
-ExplainsMore depth label element n lines =
-    (line : Line) × IsAt depth label line × (line.kind ≡ MoreElements n) × SpellsEach (type_of element) n line.bytes.now × (lines ≡ line ∷ [])
+ExplainsMore depth label element n lines = IsMore depth label n (bytes_of lines) lines × SpellsEach (type_of element) n (bytes_of lines)
 
 -- The lines are none, or one of the bytes after a value.
 abbrev pub IsLast : List Line → Type 0
@@ -132,14 +137,14 @@ IsLast lines = (lines ≡ []) ⊎ ((line : Line) × (lines ≡ line ∷ []) × (
 abbrev pub Adds : (List Line → Type 0) → List Line → List ℕ → List Line → List ℕ → Type 0
 Adds kind old bytes new rest = (more : List Line) × kind more × (new ≡ old ++ more) × (bytes ≡ bytes_of more ++ rest)
 
--- A walk added lines for all of the bytes, and failed with this error, or it ran out of memory.
-abbrev pub Stops : List Line → List ℕ → List Line → Error → Type 0
-Stops old bytes new e = IsReadError memory e × (e ≢ OutOfMemory → Adds (λ more. ⊤) old bytes new [])
+-- A walk added lines of this kind for all of the bytes, and failed with this error, or it ran out of memory.
+abbrev pub Stops : (List Line → Type 0) → List Line → List ℕ → List Line → Error → Type 0
+Stops kind old bytes new e = IsReadError memory e × (e ≢ OutOfMemory → Adds kind old bytes new [])
 
--- What a walk over the bytes did: it added lines of this kind for a front of the bytes, and returned the bytes after it, or it
--- stopped.
-abbrev pub Walks : (List Line → Type 0) → List Line → List ℕ → List Line → Result (Bor (List ℕ)) Error → Type 0
-Walks kind old bytes new result = MatchResult result (λ rest. Adds kind old bytes new rest.now) (Stops old bytes new)
+-- What a walk over the bytes did: it added lines of the first kind for a front of the bytes, and returned the bytes after it, or it
+-- stopped, with lines of the second kind.
+abbrev pub Walks : (List Line → Type 0) → (List Line → Type 0) → List Line → List ℕ → List Line → Result (Bor (List ℕ)) Error → Type 0
+Walks kind stopped old bytes new result = MatchResult result (λ rest. Adds kind old bytes new rest.now) (Stops stopped old bytes new)
 
 -- The lines are those of a value of the schema at the front of the bytes, where of one list at most `most` elements have lines of
 -- their own, and, if there are bytes after it, one of these bytes.

@@ -6,6 +6,7 @@ pub mod Shape
 pub mod Explained
 pub mod Refused
 pub mod RefusedLemmas
+pub mod RefusedLines
 -- The words that clauses of this crate cite, under one path.
 pub use Rattle.std.specs.Prelude.{map}
 pub use Rattle.std.specs.declared.alloc.Global.{Global}
@@ -31,9 +32,12 @@ pub use Rattle.postcard_dyn_schema.specs.declared.schema.Schema.TheVariants.{Enu
 pub use Rattle.postcard_dyn_schema.specs.declared.schema.Schema.TheVariants.{Option, Seq}
 pub use Rattle.postcard_dyn.specs.Explained.{Explains, ExplainsElements, ExplainsMore}
 pub use Rattle.postcard_dyn.specs.Explained.{ExplainsParts, HasNoFront, IsAt, IsExplained, IsLast}
-pub use Rattle.postcard_dyn.specs.Explained.{IsNameOf, IsOwn, Opens, Walks, bytes_of, deeper}
+pub use Rattle.postcard_dyn.specs.Explained.{IsMore, IsNameOf, IsOwn, Opens, Walks, bytes_of}
+pub use Rattle.postcard_dyn.specs.Explained.{deeper}
 pub use Rattle.postcard_dyn.specs.Fixed.{IsBitsOf, signed_of as number_of, order_of}
 pub use Rattle.postcard_dyn.specs.Refused.{HasNoRow, IsRefusedAt, StopsAt, StopsInRow}
+pub use Rattle.postcard_dyn.specs.RefusedLines.{IsExplainedUpTo, IsRefusal, Refuses}
+pub use Rattle.postcard_dyn.specs.RefusedLines.{RefusesElements, RefusesMore, RefusesParts}
 pub use Rattle.postcard_dyn.specs.Tree.{AreTrees, IsTree, tree}
 pub use Rattle.postcard_dyn.specs.declared.explain.Label.TheVariants.{Element, Whole}
 pub use Rattle.postcard_dyn.specs.declared.explain.Line.{Line}

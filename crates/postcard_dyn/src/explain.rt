@@ -4,13 +4,14 @@
 //! the bytes after a value also with the error of a part that can't be read, once its line is
 //! added.
 
-ghost use Rattle.std.specs.Prelude.{◌≡◌, ◌≢◌, ◌⊎◌, ℕ, List, [], ◌∷◌, ◌++◌, Box, None, IfOk, IfErr};
-ghost use Rattle.std.specs.Prelude.{IfSome, OnOk};
+ghost use Rattle.std.specs.Prelude.{◌≡◌, ◌≢◌, ◌-◌, ◌⊎◌, ℕ, List, [], ◌∷◌, ◌++◌, Box, None, IfOk};
+ghost use Rattle.std.specs.Prelude.{IfErr, IfSome, OnOk};
 ghost use Rattle.postcard_dyn.specs.{Array, AsLeaf, Element, Enum, Explains, ExplainsElements};
 ghost use Rattle.postcard_dyn.specs.{ExplainsMore, ExplainsParts, Global, Group, HasNoFront, IsAt};
-ghost use Rattle.postcard_dyn.specs.{IsExplained, IsLast, IsNameOf, IsOwn, IsReadError, Line, Map};
-ghost use Rattle.postcard_dyn.specs.{Opens, Option, Schema, Seq, Walks, Whole, bytes_of, deeper};
-ghost use Rattle.postcard_dyn.specs.{memory};
+ghost use Rattle.postcard_dyn.specs.{IsExplained, IsExplainedUpTo, IsLast, IsMore, IsNameOf, IsOwn};
+ghost use Rattle.postcard_dyn.specs.{IsReadError, IsRefusal, Line, Map, Opens, Option, Refuses};
+ghost use Rattle.postcard_dyn.specs.{RefusesElements, RefusesMore, RefusesParts, Schema, Seq, Walks};
+ghost use Rattle.postcard_dyn.specs.{Whole, bytes_of, deeper, memory};
 
 use crate::calls::take_from_bytes;
 use crate::value::Value;
@@ -43,8 +44,6 @@ pub enum Expected {
     Count,
     /// The index of a variant.
     Variant,
-    /// An element of a list.
-    Element,
 }
 
 /// What the bytes of a line are.
@@ -132,6 +131,8 @@ pub fn explain<'a>(
         → IsExplained most schema.now bytes.now told.lines.items) }
     ensures stopped { IfOk result (λ told. IfSome told.refused (λ error.
         HasNoFront schema.now bytes.now × IsReadError memory error × (error ≢ Error.OutOfMemory))) }
+    ensures stopped_lines { IfOk result (λ told. IfSome told.refused (λ error.
+        IsExplainedUpTo most schema.now told.lines.items)) }
     ensures named_error { IfErr result
         (λ e. (e ≡ Error.OutOfMemory) ⊎ (e ≡ Error.WontImplement)) }
     ensures disagrees { IfErr result
@@ -216,6 +217,7 @@ fn refuse<'a>(
 ) -> Result<&'a [u8]>
     requires { IsReadError memory error }
     ensures { Walks (λ lines. ⊥)
+        (IsRefusal place.entry.depth place.entry.label expected bytes.now error)
         walk.old.lines.items bytes.now walk.new.lines.items result }
 {
     if error != Error::OutOfMemory {
@@ -296,6 +298,7 @@ fn explain_part<'a>(
     bytes: &'a [u8],
 ) -> Result<&'a [u8]>
     ensures { Walks (Explains most place.entry.depth place.entry.label schema.now)
+        (Refuses most place.entry.depth place.entry.label schema.now)
         walk.old.lines.items bytes.now walk.new.lines.items result }
 {
     match schema {
@@ -325,6 +328,7 @@ fn explain_leaf<'a>(
 ) -> Result<&'a [u8]>
     ensures { (most : ℕ) → schema.now ≡ AsLeaf leaf
         → Walks (Explains most place.entry.depth place.entry.label schema.now)
+        (Refuses most place.entry.depth place.entry.label schema.now)
         walk.old.lines.items bytes.now walk.new.lines.items result }
 {
     match take_from_bytes(walk.alloc, schema, bytes) {
@@ -352,6 +356,7 @@ fn explain_option<'a>(
 ) -> Result<&'a [u8]>
     ensures { (s : Schema) (held : Box Schema Global) → s ≡ Option held → held.value ≡ content.now
         → Walks (Explains most place.entry.depth place.entry.label s)
+        (Refuses most place.entry.depth place.entry.label s)
         walk.old.lines.items bytes.now walk.new.lines.items result }
 {
     let Some((first, rest)) = bytes.split_first() else {
@@ -386,6 +391,7 @@ fn explain_list<'a>(
     ensures { (s : Schema) (held : Box Schema Global) → (s ≡ Seq held) ⊎ (s ≡ Map held)
         → held.value ≡ element.now
         → Walks (Explains most place.entry.depth place.entry.label s)
+        (Refuses most place.entry.depth place.entry.label s)
         walk.old.lines.items bytes.now walk.new.lines.items result }
 {
     match postcard_de::take_from_bytes::<u64>(walk.alloc, bytes) {
@@ -409,6 +415,7 @@ fn explain_array<'a>(
     ensures { (s : Schema) (held : Box Schema Global) → s ≡ Array held count
         → held.value ≡ element.now
         → Walks (Explains most place.entry.depth place.entry.label s)
+        (Refuses most place.entry.depth place.entry.label s)
         walk.old.lines.items bytes.now walk.new.lines.items result }
 {
     let depth = open_parts(walk, place)?;
@@ -425,6 +432,7 @@ fn explain_elements<'a>(
     bytes: &'a [u8],
 ) -> Result<&'a [u8]>
     ensures { Walks (ExplainsElements most depth element.now count)
+        (RefusesElements most depth element.now count)
         walk.old.lines.items bytes.now walk.new.lines.items result }
 {
     let mut rest = bytes;
@@ -435,14 +443,11 @@ fn explain_elements<'a>(
         };
         rest = explain_part(walk, most, element, place, rest)?;
     }
-    if count <= most {
-        return Ok(rest);
-    }
-    explain_more(walk, most, element, count - most, depth, rest)
+    explain_more(walk, most, element, count, depth, rest)
 }
 
-/// Adds one line for `count` elements in a row, those after the first `most`. If one of them can't be
-/// read, the line is that of the elements before it, and the refused element has lines of its own.
+/// Adds one line for the elements of `count` after the first `most`, if there are some. If one of them
+/// can't be read, the line is that of those before it, and the refused element has lines of its own.
 #[cycle(explain)]
 fn explain_more<'a>(
     walk: &mut Walk<'a>,
@@ -452,39 +457,49 @@ fn explain_more<'a>(
     depth: usize,
     bytes: &'a [u8],
 ) -> Result<&'a [u8]>
-    ensures { Walks (ExplainsMore depth (Element most) element.now count)
+    ensures { Walks (ExplainsMore depth (Element most) element.now (count - most))
+        (RefusesMore most depth element.now count)
         walk.old.lines.items bytes.now walk.new.lines.items result }
 {
-    let label = Label::Element(most);
+    let place = Place {
+        depth,
+        label: Label::Element(most),
+    };
     let mut rest = bytes;
-    for i in 0..count {
+    for i in most..count {
         match take_from_bytes(walk.alloc, element, rest) {
             Ok((_, after)) => rest = after,
             Err(error) => {
-                let place = Place { depth, label };
-                push(
-                    walk,
-                    place,
-                    LineKind::MoreElements(i),
-                    front_of(bytes, rest),
-                )?;
+                push_more(walk, place, i - most, front_of(bytes, rest))?;
                 let refused = Place {
                     depth,
-                    label: Label::Element(most.saturating_add(i)),
+                    label: Label::Element(i),
                 };
-                let after = explain_part(walk, most, element, refused, rest)?;
-                return refuse(walk, Expected::Element, refused, after, error);
+                explain_part(walk, most, element, refused, rest)?;
+                return Err(error);
             }
         }
     }
-    let place = Place { depth, label };
-    push(
+    push_more(
         walk,
         place,
-        LineKind::MoreElements(count),
+        count.saturating_sub(most),
         front_of(bytes, rest),
     )?;
     Ok(rest)
+}
+
+/// Adds one line for `count` elements with these bytes, if there are some.
+fn push_more<'a>(walk: &mut Walk<'a>, place: Place<'a>, count: u64, bytes: &'a [u8]) -> Result<()>
+    ensures added { OnOk result ((more : List Line)
+        × IsMore place.entry.depth place.entry.label count bytes.now more
+        × (walk.new.lines.items ≡ walk.old.lines.items ++ more)) }
+    ensures only_out_of_memory { IfErr result (λ e. e ≡ Error.OutOfMemory) }
+{
+    if count == 0 {
+        return Ok(());
+    }
+    push(walk, place, LineKind::MoreElements(count), bytes)
 }
 
 #[cycle(explain)]
@@ -497,6 +512,7 @@ fn explain_group<'a>(
 ) -> Result<&'a [u8]>
     ensures { (s : Schema) → s ≡ Group parts.now
         → Walks (Explains most place.entry.depth place.entry.label s)
+        (Refuses most place.entry.depth place.entry.label s)
         walk.old.lines.items bytes.now walk.new.lines.items result }
 {
     let depth = open_parts(walk, place)?;
@@ -512,6 +528,7 @@ fn explain_parts<'a>(
     bytes: &'a [u8],
 ) -> Result<&'a [u8]>
     ensures { Walks (ExplainsParts most depth parts.now.items)
+        (RefusesParts most depth parts.now.items)
         walk.old.lines.items bytes.now walk.new.lines.items result }
 {
     let mut rest = bytes;
@@ -536,6 +553,7 @@ fn explain_variant<'a>(
 ) -> Result<&'a [u8]>
     ensures { (s : Schema) → s ≡ Enum variants.now
         → Walks (Explains most place.entry.depth place.entry.label s)
+        (Refuses most place.entry.depth place.entry.label s)
         walk.old.lines.items bytes.now walk.new.lines.items result }
 {
     let (index, rest) = match postcard_de::take_from_bytes::<u32>(walk.alloc, bytes) {

@@ -1,6 +1,7 @@
 //! Tests of `pcard explain`: its rows to the column, for each kind of part and each refusal.
 
-use crate::calls::{Call, SENSOR, USAGE, check_all};
+use crate::calls::{Call, SENSOR, USAGE, check_all, check_over};
+use crate::helpers::text_with;
 
 /// One of each kind of part.
 const KINDS: &str =
@@ -159,6 +160,12 @@ at byte 0: unexpected end
 const UNKNOWN: &str =
     "unknown type at character 1, pcard types lists them, and a variant alone has a `|` before it: bad type\n";
 
+/// An offset of 65,536, after which the row has no bytes.
+const LARGE_SHOWN: &str = "\
+00000000  fd ff 03 61 61 61 61 61 ..  d: 0x61616161616161616161616161616161616..
+00010000                              g:
+";
+
 /// Calls that print a value.
 const EXPLAINED: [Call; 13] = [
     (&["explain", SENSOR, "2a0178020204"], b"", SENSOR_SHOWN, 0),
@@ -235,4 +242,13 @@ fn explains(rt: HostRuntime) {
 #[test]
 fn stops_at_a_refusal(rt: HostRuntime) {
     check_all(&rt, &STOPPED);
+}
+
+/// The input is longer than a mebibyte: a message of 65,536 bytes, and blanks.
+#[test]
+fn explains_a_large_input(rt: HostRuntime) {
+    let digits = text_with(&rt, "fdff03", "61", 65_533, "");
+    let input = text_with(&rt, digits.as_str(), " ", 1_048_576, "\n");
+    let call = &["explain", "{d: bytes, g: ()}", "-"];
+    check_over(&rt, call, input.as_bytes(), LARGE_SHOWN, 0);
 }

@@ -2,7 +2,7 @@
 
 use crate::helpers::{text_of, type_of, value_of};
 use crate::same::same;
-use postcard_dyn_json::{from_json, read_json, to_json};
+use postcard_dyn_json::{from_json, json_text, read_json, to_json};
 use serde_json::Value as Json;
 use std::process::Abort;
 
@@ -214,7 +214,7 @@ fn writes_and_reads_json(rt: HostRuntime) {
         let found = to_json(rt.alloc(), &schema, &value)
             .expect(&rt, "memory")
             .expect(&rt, text);
-        let printed = found.to_string(rt.alloc()).expect(&rt, "memory");
+        let printed = json_text(rt.alloc(), &found).expect(&rt, "memory");
         same(&rt, printed.as_str(), *json, (kind, text));
         check_read(&rt, kind, json, text);
     }

@@ -46,6 +46,8 @@ mod same;
 #[cfg(test)]
 mod size;
 #[cfg(test)]
+mod syntax;
+#[cfg(test)]
 mod texts;
 #[cfg(test)]
 mod type_files;

@@ -16,6 +16,8 @@ mod devices;
 #[cfg(test)]
 mod frames;
 #[cfg(test)]
+mod growing;
+#[cfg(test)]
 mod lengths;
 #[cfg(test)]
 mod reading;

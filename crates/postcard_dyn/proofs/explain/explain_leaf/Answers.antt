@@ -1,6 +1,8 @@
 use Rattle.std.proofs.Common.{refl, sym, ◌∙◌, append-nil}
-use Rattle.postcard_dyn.specs.Explained.{of_leaf}
-use Rattle.postcard_dyn.proofs.ExplainLemmas.{pushed}
+use Rattle.postcard_dyn.specs.declared.explain.Expected.TheVariants as expectations
+use Rattle.postcard_dyn.specs.Explained.{Explains, of_leaf}
+use Rattle.postcard_dyn.specs.RefusedLines.{Refuses, no_leaf}
+use Rattle.postcard_dyn.proofs.ExplainLemmas.{pushed, refused_as}
 use Rattle.postcard_dyn.proofs.explain.explain_leaf.Goals as goal
 
 pub returns-in_ok-push-in-Ok : goal.returns-in_ok-push-in-Ok
@@ -12,3 +14,11 @@ returns-in_ok-push-in-Ok c = λ most is.
     (of_leaf _ _ _ p.0 c.args.leaf c.in-Ok.value is p.2 (rw p.3 (refl, refl))
     (record { tree = r.tree; front = r.front; is_read = r.is_read; is_spelled = r.is_spelled; has = r.has; joins = shown ∙ sym (append-nil r.front) }))
     p.1 shown r.joins
+
+pub returns-in-Err : goal.returns-in-Err
+returns-in-Err c = λ most is.
+    let s = c.args.schema.now in
+    refused_as (Explains most c.args.place.depth c.args.place.label s) (Refuses most c.args.place.depth c.args.place.label s) c.args.place.depth c.args.place.label
+    (expectations.Leaf c.args.leaf) c.in-Err.error _ _ c.args.bytes.now c.refuse.result
+    (λ line at kind shown other. no_leaf _ _ s line c.args.leaf is at kind (λ front rest cut f. other (c.in-Err.ensures.accepts f.0 front rest f.1 f.2 (sym shown ∙ cut))))
+    c.refuse.ensures
