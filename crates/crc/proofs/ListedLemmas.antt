@@ -31,7 +31,7 @@ remainder_of w g (suc k) p = chain (step (p / 2 ^ (w + k) == 1)) (remainder_of w
 
 -- The register after a message and its checksum is x^width times `xorout`, whatever the message.
 pub after_codeword : (a : Parameters) (bytes : List ℕ) (crc : ℕ) → IsCrc a bytes crc
-  → Congruent (generator a) (bit_xor (codeword a bytes crc * 2 ^ a.width) (a.init * 2 ^ (8 * length bytes + a.width))) (in_order a.refout a.width a.xorout * 2 ^ a.width)
+    → Congruent (generator a) (bit_xor (codeword a bytes crc * 2 ^ a.width) (a.init * 2 ^ (8 * length bytes + a.width))) (in_order a.refout a.width a.xorout * 2 ^ a.width)
 after_codeword a bytes crc is =
     let w = a.width in
     let x = in_order a.refout w a.xorout in
@@ -81,6 +81,6 @@ listed a shown =
       residue = record {
         is_below = ltb-true a.residue (2 ^ p.width) second.0;
         is_remainder = λ bytes crc is.
-          chain (after_codeword p bytes crc is) (subst (λ y. Congruent g added y) (sym same_left) (remainder_of p.width g p.width added));
+            chain (after_codeword p bytes crc is) (subst (λ y. Congruent g added y) (sym same_left) (remainder_of p.width g p.width added));
       };
     }

@@ -14,7 +14,7 @@ codeword a bytes crc = bit_xor (message a.refin bytes * 2 ^ a.width) (in_order a
 pub record IsResidue (a : Parameters) (residue : ℕ) : Type 0 where
   pub is_below : residue < 2 ^ a.width
   pub is_remainder : (bytes : List ℕ) (crc : ℕ) → IsCrc a bytes crc
-    → Congruent (generator a) (bit_xor (codeword a bytes crc * 2 ^ a.width) (a.init * 2 ^ (8 * length bytes + a.width))) (in_order a.refout a.width residue)
+      → Congruent (generator a) (bit_xor (codeword a bytes crc * 2 ^ a.width) (a.init * 2 ^ (8 * length bytes + a.width))) (in_order a.refout a.width residue)
 
 -- The values of an algorithm whose type is one of plain numbers.
 pub record IsListed (a : Algorithm ℕ) : Type 0 where
