@@ -71,14 +71,14 @@ fn is_right(rt: &(impl Abort + AllocGlobal), forms: &str, said: &str) -> bool {
 
 #[test]
 fn gives_right_examples(rt: HostRuntime) {
-    let mut examples = 0;
+    let mut examples = 0u64;
     for line in SYNTAX.lines() {
         let (forms, said) = line.split_once("  ").unwrap_or(("", line));
         if forms.is_empty() || !said.contains(": ") {
             continue;
         }
         same(&rt, is_right(&rt, forms, said), true, line);
-        examples += 1;
+        examples = examples.saturating_add(1);
     }
     same(&rt, examples, 19, "the lines with an example");
 }
