@@ -1,1 +1,2 @@
 struct Größe(u8);
+struct Fields { größe: u8 }

@@ -1,14 +1,16 @@
 -- Lemmas on the rows of an explanation.
-use Rattle.std.proofs.Common.{◌≡◌, ℕ, ◌+◌, ◌-◌, ◌^◌, ◌<◌, List, [], ◌∷◌, ◌++◌, length, take, get_or, Option, ap, ◌∙◌, arith, length-append}
-use Rattle.std.specs.Prelude.{min}
+use Rattle.std.proofs.Common.{◌≡◌, ℕ, ◌+◌, ◌*◌, ◌-◌, ◌^◌, ◌<◌, false, List, [], ◌∷◌, ◌++◌, length, take, get_or, Option, refl, sym, ap, ◌∙◌, arith, length-append}
+use Rattle.std.specs.Prelude.{codes, min}
 use Rattle.std.proofs.KnownBytes.{Appends-nil, Appends-trans}
 use Rattle.std.proofs.Output.{if_some_weaken}
 use Rattle.std.proofs.lemmas.Grind.{flat_map-append}
-use Rattle.std.proofs.lemmas.List.{append-nil, take_more}
+use Rattle.std.proofs.lemmas.List.{append-nil, length-take, take_more}
+use Rattle.hex.specs.Hex.{encode_lower, lower_digits}
+use Rattle.hex.proofs.HexLemmas.{length-encode_with}
 use Rattle.postcard_dyn.specs.Explained.{bytes_of}
 use Rattle.postcard_dyn.specs.declared.explain.Line.{Line}
 use Rattle.postcard_dyn.proofs.ExplainLemmas.{bytes_join}
-use Rattle.postcard_cli.specs.Explain.{spaced, spaced_byte, told_text, PrintsRow, PrintsRows}
+use Rattle.postcard_cli.specs.Explain.{bytes_text, spaced, spaced_byte, told_text, PrintsRow, PrintsRows}
 use Rattle.postcard_cli.specs.declared.explain.Layout.{Layout}
 
 -- One byte more.
@@ -40,3 +42,20 @@ rows_more layout n (l ∷ lines) line old mid new h k =
 
 pub bytes_more : (lines : List Line) (line : Line) → length (bytes_of (lines ++ line ∷ [])) ≡ length (bytes_of lines) + length line.bytes.now
 bytes_more lines line = ap length (bytes_join lines (line ∷ [])) ∙ length-append (bytes_of lines) (line.bytes.now ++ []) ∙ ap (λ p. length (bytes_of lines) + length p) (append-nil line.bytes.now)
+
+-- The bytes of one line more.
+pub counted_more : (lines : List Line) (i : ℕ) (line : Line) → i < length lines → line ≡ get_or lines i line
+    → length (bytes_of (take (i + 1) lines)) ≡ length (bytes_of (take i lines)) + length line.bytes.now
+counted_more lines i line low is =
+    ap (λ ls. length (bytes_of ls)) (take_more lines i line low ∙ ap (λ l. take i lines ++ l ∷ []) (sym is)) ∙ bytes_more (take i lines) line
+
+-- A byte has three columns.
+pub length-spaced : (xs : List ℕ) → length (spaced xs) ≡ 3 * length xs
+length-spaced [] = refl
+length-spaced (x ∷ xs) =
+    omega (arith, length-append (spaced_byte x) (spaced xs), length-spaced xs, length-append (encode_lower (x ∷ [])) (32 ∷ []), length-encode_with lower_digits (x ∷ []))
+
+-- Of more than eight bytes, eight and `.. ` are shown, which have the columns of nine.
+pub length-bytes_text : (layout : Layout) (xs : List ℕ) → layout.all ≡ false → length (bytes_text layout xs) ≡ 3 * min (length xs) 9
+length-bytes_text layout xs cut =
+    rw cut (grind (arith, length-spaced xs, length-append (spaced (take 8 xs)) (codes ".. "), length-spaced (take 8 xs), length-take 8 xs))

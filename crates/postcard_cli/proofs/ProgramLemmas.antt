@@ -244,6 +244,7 @@ performs_no_more syntax (Explain expression hex all) known left old mid new d no
   explained = d.explained;
   layout = d.layout;
   uncut = d.uncut;
+  fits = d.fits;
   printed = rows_no_more d.layout 0 d.lines old mid new d.printed none;
 }
 performs_no_more syntax (ExplainJson expression hex) known left old mid new d none = record {

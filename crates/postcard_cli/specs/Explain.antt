@@ -1,5 +1,5 @@
 -- What `explain` prints: a row for each line of an explanation.
-use Rattle.std.specs.Prelude.{◌≡◌, ◌≢◌, ℕ, ◌+◌, ◌-◌, ◌^◌, ◌≤◌, ◌⊎◌, min, nat_le, nat_eq, Bool, false, if◌then◌else◌, replicate, List, [], ◌∷◌, ◌++◌, length, take, drop, codes, Option, Some, IfSome}
+use Rattle.std.specs.Prelude.{◌≡◌, ◌≢◌, ℕ, ◌+◌, ◌-◌, ◌^◌, ◌≤◌, ◌<◌, ◌⊎◌, min, nat_le, nat_eq, Bool, false, if◌then◌else◌, replicate, List, [], ◌∷◌, ◌++◌, length, take, drop, codes, Option, Some, IfSome}
 use Rattle.std.specs.List.{flat_map}
 use Rattle.std.specs.Fmt.{◌++?◌, decimal}
 use Rattle.std.specs.Int.{w64, to_be_bytes}
@@ -89,11 +89,17 @@ abbrev pub IsCut : Layout → List ℕ → List ℕ → Type 0
 IsCut layout text shown =
     (shown ≡ text) ⊎ ((layout.all ≡ false) × ((front : List ℕ) × (back : List ℕ) × (text ≡ front ++ back) × (shown ≡ front ++ codes "..")))
 
--- The row of a line before whose bytes there are `at`: the offset, the bytes, blanks, and the line's text, cut.
+-- What a row has before its text: the offset, the bytes, and blanks.
+abbrev pub head_text : Layout → ℕ → List ℕ → ℕ → List ℕ
+head_text layout at bytes pad = offset_text layout at ++ (codes "  " ++ (bytes_text layout bytes ++ replicate pad 32))
+
+-- The row of a line before whose bytes there are `at`: its head, and the line's text, cut. It has at most 80 bytes, and its line's end,
+-- unless nothing is cut.
 abbrev pub IsRow : Layout → ℕ → Line → List ℕ → List ℕ → Type 0
 IsRow layout at line text row =
     (pad : ℕ) × (shown : List ℕ) × IsCut layout text shown
-    × (row ≡ (offset_text layout at ++ (codes "  " ++ (bytes_text layout line.bytes.now ++ replicate pad 32))) ++ (shown ++ 10 ∷ []))
+    × (row ≡ head_text layout at line.bytes.now pad ++ (shown ++ 10 ∷ []))
+    × (layout.all ≡ false → length row ≤ 81)
 
 -- The row is printed, if something is said of the line's text.
 abbrev pub PrintsRow : Layout → ℕ → Line → Option (List ℕ) → Option (List ℕ) → Type 0
@@ -104,6 +110,10 @@ abbrev pub PrintsRows : Layout → ℕ → List Line → Option (List ℕ) → O
 PrintsRows layout at [] old new = Appends old new []
 PrintsRows layout at (line ∷ lines) old new =
     (mid : Option (List ℕ)) × PrintsRow layout at line old mid × PrintsRows layout (at + length line.bytes.now) lines mid new
+
+-- The digits of an offset are enough for the offset after the last line, and so for each.
+abbrev pub FitsOffsets : Layout → List Line → Type 0
+FitsOffsets layout lines = min (length (bytes_of lines)) (2 ^ 64 - 1) < 256 ^ layout.offset
 
 -- The most elements of one list that have rows of their own: 16, or, if nothing is cut, as many as a list may have.
 abbrev pub most_elements : Bool → ℕ
@@ -120,6 +130,7 @@ pub record PrintsExplained (expression hex : List ℕ) (all : Bool) (known left 
   pub explained : IsExplained (most_elements all) schema bytes lines
   pub layout : Layout
   pub uncut : layout.all ≡ all
+  pub fits : FitsOffsets layout lines
   pub printed : PrintsRows layout 0 lines old new
 
 -- The bytes of HEX begin with no value of the expression. The rows of lines that have all of them, in order, are printed, and
@@ -134,6 +145,7 @@ pub record IsExplainRefused (expression hex : List ℕ) (all : Bool) (known left
   pub every_byte : bytes_of lines ≡ bytes
   pub layout : Layout
   pub uncut : layout.all ≡ all
+  pub fits : FitsOffsets layout lines
   pub mid : Option (List ℕ)
   pub rows : PrintsRows layout 0 lines old mid
   pub error : Error

@@ -47,10 +47,10 @@ pub use Rattle.postcard_cli.specs.Checksum.{PrintsDigits, PrintsTrailer, bytes_f
 pub use Rattle.postcard_cli.specs.Checksum.{parameters_of}
 pub use Rattle.postcard_cli.specs.Command.{IsCallOf, IsNoCall, IsWordOf, SaysLongest}
 pub use Rattle.postcard_cli.specs.Command.{begins_expression, looks_like_expression, name_of}
-pub use Rattle.postcard_cli.specs.Explain.{IsCut, PrintsExplained, PrintsRow, PrintsRows}
-pub use Rattle.postcard_cli.specs.Explain.{bytes_text, elements_text, expected_text, kind_text}
-pub use Rattle.postcard_cli.specs.Explain.{offset_text, separator_text, spaced, title_text}
-pub use Rattle.postcard_cli.specs.Explain.{told_text}
+pub use Rattle.postcard_cli.specs.Explain.{FitsOffsets, IsCut, PrintsExplained, PrintsRow}
+pub use Rattle.postcard_cli.specs.Explain.{PrintsRows, bytes_text, elements_text, expected_text}
+pub use Rattle.postcard_cli.specs.Explain.{head_text, kind_text, offset_text, separator_text}
+pub use Rattle.postcard_cli.specs.Explain.{spaced, title_text, told_text}
 pub use Rattle.postcard_cli.specs.Failure.{AnswersFailure, failure_status, failure_text}
 pub use Rattle.postcard_cli.specs.Framed.{PrintsEncodedFrame, PrintsEncodedFrameRaw}
 pub use Rattle.postcard_cli.specs.Framed.{PrintsFirstFrame, PrintsHexFrames}

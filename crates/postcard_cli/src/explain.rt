@@ -1,12 +1,12 @@
 //! The command `explain`, which prints which bytes of a message are which part of its value.
 
-ghost use Rattle.std.specs.Prelude.{◌≡◌, ◌⊎◌, ◌++◌, ◌∷◌, [], ℕ, List, IfErr, OnOk, codes, min};
-ghost use Rattle.std.specs.Prelude.{replicate};
-ghost use Rattle.postcard_cli.specs.{Appends, DisplaysOnOk, ExplainFails, IsCut, Layout};
-ghost use Rattle.postcard_cli.specs.{OutOfMemory, PrintsExplained, PrintsRow, PrintsRows};
-ghost use Rattle.postcard_cli.specs.{WritesOnOk, bytes_text, elements_text, expected_text};
-ghost use Rattle.postcard_cli.specs.{kind_text, layout_of, offset_text, separator_text, spaced};
-ghost use Rattle.postcard_cli.specs.{text, title_text, told_text, tree};
+ghost use Rattle.std.specs.Prelude.{◌≡◌, ◌≤◌, ◌⊎◌, ◌++◌, ◌∷◌, [], ℕ, List, false, length, IfOk};
+ghost use Rattle.std.specs.Prelude.{IfErr, OnOk, codes, min, replicate};
+ghost use Rattle.postcard_cli.specs.{Appends, DisplaysOnOk, ExplainFails, FitsOffsets, IsCut};
+ghost use Rattle.postcard_cli.specs.{Layout, OutOfMemory, PrintsExplained, PrintsRow};
+ghost use Rattle.postcard_cli.specs.{PrintsRows, WritesOnOk, bytes_text, elements_text};
+ghost use Rattle.postcard_cli.specs.{expected_text, head_text, kind_text, layout_of};
+ghost use Rattle.postcard_cli.specs.{separator_text, spaced, text, title_text, told_text, tree};
 
 use crate::failure::Failure;
 use crate::hexadecimal;
@@ -38,8 +38,8 @@ pub const DEEPEST: usize = 12;
 struct Layout {
     /// The number of bytes of an offset.
     offset: usize,
-    /// The number of columns of the bytes.
-    column: usize,
+    /// The number of bytes of the longest line.
+    longest: usize,
     /// Whether nothing is cut.
     all: bool,
 }
@@ -83,8 +83,8 @@ pub fn print<R: Reader, W: Write>(
     }
 }
 
-/// Prints each line of an explanation as a row, with the offset of its bytes in the message. Fails
-/// with `Output`, and with `Library(OutOfMemory)`.
+/// Prints each line of an explanation as a row, with the offset of its bytes in the message, of
+/// which each digit is shown. Fails with `Output`, and with `Library(OutOfMemory)`.
 fn print_lines<W: Write>(
     alloc: Global,
     lines: &Vec<Line<'_>>,
@@ -92,6 +92,7 @@ fn print_lines<W: Write>(
     output: &mut W,
 ) -> Result<(), Failure>
     ensures printed { OnOk result ((layout : Layout) × (layout.all ≡ all)
+        × FitsOffsets layout lines.now.items
         × PrintsRows layout 0 lines.now.items (W.contents output.old) (W.contents output.new)) }
     ensures only_output_or_out_of_memory { IfErr result
         (λ e. (e ≡ Failure.Output) ⊎ (e ≡ Failure.Library OutOfMemory)) }
@@ -106,9 +107,10 @@ fn print_lines<W: Write>(
 }
 
 /// Returns the layout of lines: offsets of as few bytes as the number of all bytes takes, which is
-/// the offset after them, and a column of bytes that is as wide as the widest, cut.
+/// the offset after them.
 fn layout_of(lines: &Vec<Line<'_>>, all: bool) -> Layout
-    ensures { result.all ≡ all }
+    ensures uncut { result.all ≡ all }
+    ensures fits { FitsOffsets result lines.now.items }
 {
     let mut count = 0usize;
     let mut longest = 0usize;
@@ -124,7 +126,7 @@ fn layout_of(lines: &Vec<Line<'_>>, all: bool) -> Layout
     };
     Layout {
         offset,
-        column: 3 * longest.min(SHOWN + 1),
+        longest,
         all,
     }
 }
@@ -144,43 +146,36 @@ fn print_row<W: Write>(
 {
     let told = Told(line);
     let text = format!(in alloc; "{told}")?;
-    let indent = 2 * line.depth.min(DEEPEST);
-    print_head(layout, at, line.bytes, indent, output)?;
-    print_cut(layout, &text, room_of(layout, indent), output)?;
+    let head = print_head(layout, at, line, output)?;
+    print_cut(layout, &text, COLUMNS - head, output)?;
     Ok(())
 }
 
-/// Returns the number of bytes of text that a row has room for.
-fn room_of(layout: Layout, indent: usize) -> usize {
-    let head = layout
-        .offset
-        .saturating_mul(2)
-        .saturating_add(layout.column);
-    COLUMNS.saturating_sub(head.saturating_add(3).saturating_add(indent))
-}
-
-/// Prints the offset and the bytes of a row, and blanks up to its text.
+/// Prints the offset and the bytes of a row, and blanks up to its text. Returns the number of
+/// columns, at most 70. If nothing is cut, there may be more.
 fn print_head<W: Write>(
     layout: Layout,
     at: u64,
-    bytes: &[u8],
-    indent: usize,
+    line: &Line<'_>,
     output: &mut W,
-) -> Result<(), Failure>
-    ensures printed { OnOk result ((pad : ℕ) × Appends (W.contents output.old)
-        (W.contents output.new) (offset_text layout at ++ (codes "  "
-        ++ (bytes_text layout bytes.now ++ replicate pad 32)))) }
+) -> Result<usize, Failure>
+    ensures printed { IfOk result (λ columns. (pad : ℕ) × Appends (W.contents output.old)
+        (W.contents output.new) (head_text layout at line.now.bytes.now pad)
+        × (layout.all ≡ false
+        → length (head_text layout at line.now.bytes.now pad) ≡ columns)) }
+    ensures bounded { IfOk result (λ columns. columns ≤ 70) }
     ensures only_output { IfErr result (λ e. e ≡ Failure.Output) }
 {
     let digits = at.to_be_bytes();
     let (_, shown) = digits.split_at(8usize.saturating_sub(layout.offset));
     hexadecimal::write(shown, output)?;
     output.write_all(b"  ")?;
-    print_bytes(layout, bytes, output)?;
-    let width = bytes.len().min(SHOWN + 1).saturating_mul(3);
-    let pad = layout.column.saturating_sub(width).saturating_add(1);
-    print_blanks(pad.saturating_add(indent), output)?;
-    Ok(())
+    print_bytes(layout, line.bytes, output)?;
+    let column = 3 * layout.longest.min(SHOWN + 1);
+    let width = 3 * line.bytes.len().min(SHOWN + 1);
+    let blanks = column.saturating_sub(width) + 1 + 2 * line.depth.min(DEEPEST);
+    print_blanks(blanks, output)?;
+    Ok(2 * shown.len() + 2 + width + blanks)
 }
 
 /// Prints the bytes of a row, each with a blank after it.
@@ -222,8 +217,8 @@ fn print_blanks<W: Write>(count: usize, output: &mut W) -> Result<(), Failure>
     Ok(())
 }
 
-/// Prints the text of a row and ends it. Of a text that there is no room for, prints a front and
-/// `..`, unless nothing is cut.
+/// Prints the text of a row and ends it. Of a text of more bytes than `room`, prints the first ones
+/// and `..`, unless nothing is cut.
 fn print_cut<W: Write>(
     layout: Layout,
     text: &str,
@@ -231,6 +226,7 @@ fn print_cut<W: Write>(
     output: &mut W,
 ) -> Result<(), Failure>
     ensures printed { OnOk result ((shown : List ℕ) × IsCut layout text.now shown
+        × (layout.all ≡ false → 2 ≤ room → length shown ≤ room)
         × Appends (W.contents output.old) (W.contents output.new) (shown ++ 10 ∷ [])) }
     ensures only_output { IfErr result (λ e. e ≡ Failure.Output) }
 {

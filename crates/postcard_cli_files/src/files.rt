@@ -1,9 +1,9 @@
 //! The files that a call reads types from, or the bytes of messages.
 
-ghost use Rattle.std.specs.Prelude.{◌≡◌, ℕ, List, ⊤, take, IfOk, IfErr};
+ghost use Rattle.std.specs.Prelude.{◌≡◌, ◌≤◌, ℕ, List, ⊤, length, take, IfOk, IfErr, IfSome};
 ghost use Rattle.postcard_cli_files.specs.{Failed, MayHave};
 
-use postcard_de_flavors::Reader;
+use postcard_de_flavors::{Plain, Reader};
 use std::alloc::Global;
 use std::fs::File;
 use std::io::{self, Read};
@@ -48,59 +48,52 @@ pub trait Files {
 pub struct Disk<'a>(pub &'a HostRuntime);
 
 impl Files for Disk<'_> {
-    type Opened = DiskFile;
+    type Opened = Plain<File>;
 
     ghost gives = { λ _ _ _. ⊤ };
 
     ghost lacks = { λ _ _. ⊤ };
 
     fn read(&self, alloc: Global, name: &str, most: usize) -> Result<Vec<u8>, ReadError> {
-        let mut bytes = Vec::new(alloc);
-        let outcome = match File::open(self.0, name) {
-            Ok(file) => file.take(most as u64).read_to_end(&mut bytes),
-            Err(error) => Err(error),
-        };
-        bytes.truncate(most);
-        match outcome {
-            Ok(_) => Ok(bytes),
-            Err(error) => Err(read_error(error)),
-        }
-    }
-
-    fn open(&self, name: &str) -> Result<DiskFile, ReadError> {
         match File::open(self.0, name) {
-            Ok(file) => Ok(DiskFile { file }),
+            Ok(file) => first_bytes(alloc, file, most),
+            Err(error) => Err(read_error(error)),
+        }
+    }
+
+    fn open(&self, name: &str) -> Result<Plain<File>, ReadError> {
+        match File::open(self.0, name) {
+            Ok(file) => Ok(Plain::new(file)),
             Err(error) => Err(read_error(error)),
         }
     }
 }
 
-/// An open file of the system. Nothing is claimed of what it has left, and no read is promised to
-/// succeed.
-#[derive(Drop)]
-pub struct DiskFile {
-    file: File,
-}
-
-impl Read for DiskFile {
-    fn read(&mut self, buf: &mut [u8]) -> io::Result<usize> {
-        self.file.read(buf)
+/// Returns the first `most` bytes of what a reader has left, or all of them if it has fewer.
+///
+/// # Errors
+///
+/// Fails with `OutOfMemory` if an allocation fails, and with `Failed` if the reader does.
+fn first_bytes<R: Read + Drop>(
+    alloc: Global,
+    reader: R,
+    most: usize,
+) -> Result<Vec<u8>, ReadError>
+    ensures first { IfOk result (λ bytes. IfSome (R.remaining reader)
+        (λ content. bytes.items ≡ take most content)) }
+    ensures bounded { IfOk result (λ bytes. length bytes.items ≤ most) }
+{
+    let mut bytes = Vec::new(alloc);
+    match reader.take(most as u64).read_to_end(&mut bytes) {
+        Ok(_) => {
+            bytes.truncate(most);
+            Ok(bytes)
+        }
+        Err(error) => Err(read_error(error)),
     }
 }
 
-impl Reader for DiskFile {
-    ghost steady = { λ _. ⊥ };
-
-    fn read_some(&mut self, buf: &mut [u8]) -> io::Result<usize> {
-        self.read(buf)
-    }
-
-    fn read_full(&mut self, buf: &mut [u8]) -> io::Result<()> {
-        self.file.read_exact(buf)
-    }
-}
-
-/// Returns why a file isn't read whose opening or reading failed with this error.
+/// Returns why a file isn't read, if this is the error of its opening or reading.
 fn read_error(error: io::Error) -> ReadError {
     match error.kind() {
         io::ErrorKind::OutOfMemory => ReadError::OutOfMemory,

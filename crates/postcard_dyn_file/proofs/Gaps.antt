@@ -1,10 +1,9 @@
 -- Where no gap begins a text.
 use Rattle.std.proofs.Common.{◌≡◌, ℕ, List, [], ◌∷◌, ◌++◌, length, sym, ap, subst, ◌∙◌, arith, inl, inr, ◌⊎◌}
-use Rattle.postcard_dyn_schema.specs.FrontLemmas.{one_word}
 use Rattle.std.proofs.lemmas.List.{append-nil}
 use Rattle.std.specs.List.{AllPass}
-use Rattle.postcard_dyn_schema.specs.Text.{is_of_word, EndsWord}
-use Rattle.postcard_dyn_file.specs.Tokens.{IsWordFront}
+use Rattle.postcard_dyn_file.specs.Tokens.{is_of_word, EndsWord, IsWordFront}
+use Rattle.postcard_dyn_file.proofs.Runs.{one_run}
 use Rattle.postcard_dyn_file.specs.Lexical.{Begins, BeginsBy, IsBlank, IsLifetime, IsGap}
 
 -- A quote begins no lifetime where no name follows it, or a name and a quote.
@@ -12,7 +11,7 @@ pub no_lifetime : (text inner name after rest : List ℕ) → text ≡ 39 ∷ in
 unfolding IsLifetime
 no_lifetime text inner name after rest is front stops (i, n, a, begins, (pass, ends, whole), filled, no_quote, comma) =
     let same : inner ≡ i = let e = sym is ∙ begins in cc in
-    let both = one_word name n after a front.0 pass front.1 ends (sym front.2 ∙ same ∙ whole) in
+    let both = one_run is_of_word name n after a front.0 pass front.1 ends (sym front.2 ∙ same ∙ whole) in
     elim stops as (λ _. ⊥) [
       | inl none ↦ (let short : length n ≡ 0 = ap length (sym both.0) ∙ none in absurd (omega (arith, short, filled)))
       | inr quote ↦ no_quote (subst (BeginsBy 39) both.1 quote)
@@ -34,7 +33,7 @@ word_alone word text (b ∷ rest) none (pass, ends, whole) = absurd (omega (arit
 -- Nothing is left of a text of letters, digits and `_`.
 pub alone_word : (word text rest : List ℕ) → IsWordFront word text rest → AllPass is_of_word text → length rest ≡ 0
 alone_word word text rest (pass, ends, whole) all =
-    let both = one_word word text rest [] pass all ends tt (sym whole ∙ sym (append-nil text)) in ap length both.1
+    let both = one_run is_of_word word text rest [] pass all ends tt (sym whole ∙ sym (append-nil text)) in ap length both.1
 
 -- A text without a word at its front.
 pub no_word : (word text after : List ℕ) → length word ≡ 0 → IsWordFront word text after → EndsWord text

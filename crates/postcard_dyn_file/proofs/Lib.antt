@@ -7,6 +7,7 @@ pub mod Spelled
 pub mod Openings
 pub mod Limits
 pub mod Files
+pub mod Runs
 pub mod Gaps
 pub mod Shorter
 pub mod Discriminants

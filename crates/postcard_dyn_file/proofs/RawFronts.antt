@@ -2,33 +2,22 @@
 use Rattle.std.proofs.Common.{◌≡◌, ℕ, List, [], ◌∷◌, ◌++◌, length, take, refl, sym, ap, subst, ◌∙◌, true≢false, append_assoc}
 use Rattle.std.specs.List.{AllPass}
 use Rattle.std.proofs.lemmas.List.{take_at}
-use Rattle.postcard_dyn_schema.specs.FrontLemmas.{one_word, pass_head, pass_tail}
 use Rattle.postcard_dyn_file.specs.Steps.{Steps, none, more}
-use Rattle.postcard_dyn_file.specs.Tokens.{IsWordFront}
-use Rattle.postcard_dyn_file.specs.Raw.{is_hash, EndsHashes, IsHashFront, IsRawPrefix, IsRawOpening, IsRawQuoted}
-
--- Two runs of `#` in a text are the same if none goes on.
-one_run : (a b r q : List ℕ) → AllPass is_hash a → AllPass is_hash b → EndsHashes r → EndsHashes q → a ++ r ≡ b ++ q → (a ≡ b) × (r ≡ q)
-one_run [] [] r q f g h k e = (refl, e)
-one_run [] (y ∷ b) r q f g h k e = absurd (true≢false (sym (pass_head is_hash y b g) ∙ subst EndsHashes e h))
-one_run (x ∷ a) [] r q f g h k e = absurd (true≢false (sym (pass_head is_hash x a f) ∙ subst EndsHashes (sym e) k))
-one_run (x ∷ a) (y ∷ b) r q f g h k e =
-    let tails : a ++ r ≡ b ++ q = cc in
-    let heads : x ≡ y = cc in
-    let both = one_run a b r q (pass_tail is_hash x a f) (pass_tail is_hash y b g) h k tails in
-    (cc (both.0, heads), both.1)
+use Rattle.postcard_dyn_file.specs.Tokens.{is_of_word, IsWordFront}
+use Rattle.postcard_dyn_file.proofs.Runs.{one_run}
+use Rattle.postcard_dyn_file.specs.Raw.{is_hash, IsHashFront, IsRawPrefix, IsRawOpening, IsRawQuoted}
 
 -- The word that begins a text is no prefix of a raw literal.
 pub no_prefix : (word after text hashes inner : List ℕ) → IsWordFront word text after → (IsRawPrefix word → ⊥) → IsRawOpening hashes text inner → ⊥
 no_prefix word after text hashes inner (pass, ends, whole) other (v, q, is, (pass', ends', whole'), front) =
-    let both = one_word v word q after pass' pass ends' ends (sym whole' ∙ whole) in other (subst IsRawPrefix both.0 is)
+    let both = one_run is_of_word v word q after pass' pass ends' ends (sym whole' ∙ whole) in other (subst IsRawPrefix both.0 is)
 
 -- No quote follows the word and the `#` that begin a text.
 pub no_quote : (word after text run quoted hashes inner : List ℕ) → IsWordFront word text after → IsHashFront run after quoted → ((rest : List ℕ) → quoted ≡ 34 ∷ rest → ⊥)
     → IsRawOpening hashes text inner → ⊥
 no_quote word after text run quoted hashes inner (pass, ends, whole) (all, stops, runs) unquoted (v, q, is, (pass', ends', whole'), (all', stops', runs')) =
-    let both = one_word v word q after pass' pass ends' ends (sym whole' ∙ whole) in
-    let same = one_run run hashes quoted (34 ∷ inner) all all' stops stops' (sym runs ∙ sym both.1 ∙ runs') in
+    let both = one_run is_of_word v word q after pass' pass ends' ends (sym whole' ∙ whole) in
+    let same = one_run is_hash run hashes quoted (34 ∷ inner) all all' stops stops' (sym runs ∙ sym both.1 ∙ runs') in
     unquoted inner same.1
 
 -- A front of a text, behind another one.

@@ -1,10 +1,9 @@
 -- How a file is read as tokens: its words, signs and literals, with gaps between them.
 use Rattle.std.specs.Prelude.{◌≡◌, ◌≢◌, ℕ, ◌+◌, ◌<◌, true, ◌⊎◌, List, [], ◌∷◌, ◌++◌, length, slice_index, codes}
 use Rattle.std.specs.Char.{is_ascii_whitespace}
-use Rattle.postcard_dyn_schema.specs.Text.{EndsWord}
 use Rattle.postcard_dyn_file.specs.declared.token.Token.{Token}
 use Rattle.postcard_dyn_file.specs.Steps.{Steps, StepsToZero}
-use Rattle.postcard_dyn_file.specs.Tokens.{IsWordFront}
+use Rattle.postcard_dyn_file.specs.Tokens.{EndsWord, IsWordFront}
 use Rattle.postcard_dyn_file.specs.Raw.{IsRaw, IsRawOpening}
 use Rattle.postcard_dyn_file.specs.Words.{Where}
 

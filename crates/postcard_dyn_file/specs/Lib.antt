@@ -12,7 +12,6 @@ pub mod Places
 pub mod Files
 -- The words that clauses of this crate cite, under one path.
 pub use Rattle.postcard_dyn_schema.specs.Grammar.{IsExpression}
-pub use Rattle.postcard_dyn_schema.specs.Text.{is_of_word as is_of_word_byte}
 pub use Rattle.postcard_dyn_schema.specs.declared.schema.Schema.{Schema}
 pub use Rattle.postcard_dyn_file.specs.Expands.{AreInOrder, Counts, CountsAt, EntersAgain, Finds, HasMore}
 pub use Rattle.postcard_dyn_file.specs.Expands.{HasMoreAt, HasProblem, IsMember, IsSpelledBy, Refers, Spelled, Writes}
@@ -30,7 +29,7 @@ pub use Rattle.postcard_dyn_file.specs.Places.{IsLineStart, IsPlace}
 pub use Rattle.postcard_dyn_file.specs.Printed.{file_error_text, file_problem_text, is_of_type}
 pub use Rattle.postcard_dyn_file.specs.Raw.{IsHashFront, IsRaw, IsRawOpening, IsRawPrefix, IsRawQuoted}
 pub use Rattle.postcard_dyn_file.specs.Tokens.{BeginsName, IsAt, IsBefore, IsName, IsNameAt, IsWordFront}
-pub use Rattle.postcard_dyn_file.specs.Tokens.{Says, spelling}
+pub use Rattle.postcard_dyn_file.specs.Tokens.{Says, is_of_word as is_of_word_byte, spelling}
 pub use Rattle.postcard_dyn_file.specs.Words.{EndsDiscriminant, IsAliasText, IsDiscriminant, IsEnumText}
 pub use Rattle.postcard_dyn_file.specs.Words.{IsLastComma, IsPlainText, IsSign, IsStructText, IsText}
 pub use Rattle.postcard_dyn_file.specs.declared.declaration.Declaration.{Declaration}

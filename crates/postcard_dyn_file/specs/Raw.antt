@@ -1,21 +1,15 @@
 -- Raw literals, in whose letters a `\` is one of them.
 use Rattle.std.specs.Prelude.{◌≡◌, ℕ, Bool, ◌==◌, false, ◌⊎◌, List, [], ◌∷◌, ◌++◌, codes}
-use Rattle.std.specs.List.{AllPass}
 use Rattle.postcard_dyn_file.specs.Steps.{Steps}
-use Rattle.postcard_dyn_file.specs.Tokens.{IsWordFront}
+use Rattle.postcard_dyn_file.specs.Tokens.{IsFrontBy, IsWordFront}
 
 -- The byte is `#`.
 abbrev pub is_hash : ℕ → Bool
 is_hash b = b == 35
 
--- No `#` begins the text.
-abbrev pub EndsHashes : List ℕ → Type 0
-EndsHashes [] = Unit {0}
-EndsHashes (b ∷ text) = is_hash b ≡ false
-
 -- The text begins with these `#`, all that it begins with, or with none, and `rest` is left.
 abbrev pub IsHashFront : List ℕ → List ℕ → List ℕ → Type 0
-IsHashFront hashes text rest = AllPass is_hash hashes × EndsHashes rest × (text ≡ hashes ++ rest)
+IsHashFront hashes text rest = IsFrontBy is_hash hashes text rest
 
 -- The word is what a raw literal begins with.
 abbrev pub IsRawPrefix : List ℕ → Type 0

@@ -17,9 +17,8 @@ use crate::token::Token;
 use std::alloc::Global;
 
 /// Returns the tokens of a file, in order. Fails with `CommentOpen` or `LiteralOpen` where one
-/// begins that isn't closed, with `AsciiExpected` at a character beyond ASCII outside of both, with
-/// `NotOpen` at a bracket that is closed and isn't open, with `BracketOpen` at one that isn't
-/// closed, and with `OutOfMemory`.
+/// begins that isn't closed, with `NotOpen` at a bracket that is closed and isn't open, with
+/// `BracketOpen` at one that isn't closed, and with `OutOfMemory`.
 pub fn tokens<'a>(alloc: Global, file: &'a [u8]) -> Result<Vec<Token<'a>>, ProblemAt>
     ensures read { IfOk result (λ tokens. IsRead file.now tokens.items) }
     ensures other { IfErr result (λ e. is_of_type e.problem ≡ false) }
@@ -255,7 +254,7 @@ fn after_lifetime(text: &[u8]) -> Option<&[u8]>
     }
 }
 
-/// Returns the letters, digits and `_` that the text begins with, and the text after them.
+/// Returns the word that the text begins with, and the text after it.
 pub(crate) fn word_front(text: &[u8]) -> (&[u8], &[u8])
     ensures { IsWordFront result.0.now text.now result.1.now }
 {
@@ -266,16 +265,16 @@ pub(crate) fn word_front(text: &[u8]) -> (&[u8], &[u8])
     text.split_at(count)
 }
 
-/// Returns whether a byte may be part of a word: a letter or a digit of ASCII, or `_`.
+/// Returns whether a byte may be part of a word: a letter, a digit, `_`, or a byte of a character
+/// beyond ASCII.
 fn is_of_word(byte: u8) -> bool
     ensures { result ≡ is_of_word_byte byte }
 {
-    byte.is_ascii_alphanumeric() || byte == b'_'
+    byte.is_ascii_alphanumeric() || byte == b'_' || !byte.is_ascii()
 }
 
 /// Returns the token that the text begins with, and the text after it. Fails with `LiteralOpen` if
-/// it is a literal that isn't closed, and with `AsciiExpected` if the text is empty or begins with
-/// a character beyond ASCII.
+/// it is a literal that isn't closed, and with `AsciiExpected` if the text is empty.
 fn token_front(text: &[u8]) -> Result<(&[u8], &[u8]), ProblemAt>
     ensures read { IfOk result (λ found. IsTokenAt found.0.now text.now found.1.now) }
     ensures other { IfErr result (λ e. is_of_type e.problem ≡ false) }

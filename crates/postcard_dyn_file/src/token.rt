@@ -68,7 +68,7 @@ pub fn is_before(tokens: &[Token], at: usize, word: &[u8]) -> bool
     }
 }
 
-/// Returns whether the token at this index is a word that begins with a letter or `_`.
+/// Returns whether the token at this index is a word that begins with no digit.
 pub fn is_name_at(tokens: &[Token], at: usize) -> bool
     ensures { Decides result (IsNameAt tokens.now at) }
 {
@@ -78,7 +78,7 @@ pub fn is_name_at(tokens: &[Token], at: usize) -> bool
     }
 }
 
-/// Returns whether a text is letters, digits and `_`, and begins with no digit.
+/// Returns whether a text is a word that begins with no digit.
 fn is_name(text: &[u8]) -> bool
     ensures { Decides result (IsName text.now) }
 {
@@ -96,7 +96,7 @@ fn begins_name(text: &[u8]) -> bool
     ensures { Decides result (BeginsName text.now) }
 {
     match text.split_first() {
-        Some((first, _)) => first.is_ascii_alphabetic() || *first == b'_',
+        Some((first, _)) => first.is_ascii_alphabetic() || *first == b'_' || !first.is_ascii(),
         None => false,
     }
 }

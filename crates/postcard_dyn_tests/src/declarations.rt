@@ -33,7 +33,13 @@ mod other;
 ";
 
 /// Files with declarations that are read.
-const TYPES: [Row; 26] = [
+const TYPES: [Row; 27] = [
+    (
+        "struct Gr\u{f6}\u{df}e(u8); struct A(Gr\u{f6}\u{df}e, \u{3bb}); type \u{3bb} = u16;
+         impl A { ghost shape = { via (\u{3bb} v. v.0) \u{27e6}A\u{27e7} }; }",
+        "A",
+        "Group([Leaf(U8), Leaf(U16)])",
+    ),
     (
         "struct Reading { id: u32, label: String, samples: Vec<i16> }",
         "Reading",
@@ -260,9 +266,9 @@ const REFUSED: [Row; 38] = [
         "line 1, column 17: this literal isn't closed",
     ),
     (
-        "struct \u{e9};",
+        "struct A { \u{e9}: u8 }",
         "A",
-        "line 1, column 8: expected a character of ASCII",
+        "line 1, column 12: expected a letter of ASCII, a digit or `_`",
     ),
     (
         "struct A; }",

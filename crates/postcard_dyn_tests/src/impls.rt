@@ -1,5 +1,9 @@
 //! Tests of the impls that are written for the types of a file, and of the files that are refused.
 
+use crate::helpers::text_with;
+use crate::output::Failing;
+use crate::same::same;
+use postcard_impl::command::answer;
 use postcard_impl::marks::{BEGIN, END};
 use postcard_impl::{Home, impl_file};
 use std::process::Abort;
@@ -203,6 +207,72 @@ fn printed_at(rt: &(impl Abort + AllocGlobal), path: &str, file: &str) -> String
 fn names_what_is_wrong(rt: HostRuntime) {
     for (file, wanted) in &REFUSED {
         assert_eq!(&rt; printed(&rt, file).as_str(), *wanted, "{file}");
+    }
+}
+
+/// Types whose values aren't written and read.
+const NOT_SERVED: [&str; 27] = [
+    "*const u8",
+    "Box<?Sized>",
+    "!",
+    "Box<dyn C>",
+    "impl C",
+    "fn(u8) -> u8",
+    "Box<mut>",
+    "Cell<u8>",
+    "RefCell<u8>",
+    "UnsafeCell<u8>",
+    "OnceCell<u8>",
+    "LazyCell<u8>",
+    "Mutex<u8>",
+    "RwLock<u8>",
+    "OnceLock<u8>",
+    "LazyLock<u8>",
+    "Weak<u8>",
+    "NonNull<u8>",
+    "Instant",
+    "Box<OsStr>",
+    "OsString",
+    "Box<CStr>",
+    "Box<Self>",
+    "f16",
+    "f128",
+    "Vec<_>",
+    "File",
+];
+
+#[test]
+fn refuses_each_type_that_is_not_served(rt: HostRuntime) {
+    let wanted = "line 1, column 28: `b`: values of this type aren't written and read";
+    for kind in &NOT_SERVED {
+        let file = format!(in rt.alloc(); "#[derive(Drop)] struct A {{ b: {kind} }}");
+        let file = file.expect(&rt, "memory");
+        assert_eq!(&rt; printed(&rt, file.as_str()).as_str(), wanted, "{kind}");
+    }
+}
+
+#[test]
+fn takes_sixty_fields(rt: HostRuntime) {
+    let sixty = text_with(&rt, "#[derive(Drop)] struct A(", "u8,", 60, ");");
+    assert!(&rt; printed(&rt, sixty.as_str()).contains("for A {"));
+    let more = text_with(&rt, "#[derive(Drop)] struct A(", "u8,", 61, ");");
+    let wanted = "line 1, column 206: `u8`: more than 60 fields";
+    assert_eq!(&rt; printed(&rt, more.as_str()).as_str(), wanted);
+}
+
+/// The call flushes what it tells, and fails if that fails.
+#[test]
+fn flushes_a_refusal(rt: HostRuntime) {
+    for (flushes, status) in &[(true, 2), (false, 3)] {
+        let mut errors = Failing {
+            writes_left: 1_000,
+            flushes: *flushes,
+            finished: false,
+        };
+        let mut output = Vec::<u8>::new(rt.alloc());
+        let found = answer(rt.alloc(), "types.rt", b"", &mut output, &mut errors);
+        same(&rt, found, *status, "status");
+        same(&rt, errors.finished, *flushes, "flushed");
     }
 }
 

@@ -31,10 +31,10 @@ const CALLS: [(&[&str], usize, u8); 18] = [
 /// A writer that takes one byte with each write, and fails once `writes_left` is 0, or at its
 /// flush.
 #[derive(Drop)]
-struct Failing {
-    writes_left: usize,
-    flushes: bool,
-    finished: bool,
+pub struct Failing {
+    pub writes_left: usize,
+    pub flushes: bool,
+    pub finished: bool,
 }
 
 impl Write for Failing {

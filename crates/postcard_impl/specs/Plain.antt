@@ -1,10 +1,9 @@
 -- The text that declarations are read from: the file without what stands between its marks.
 use Rattle.std.specs.Prelude.{◌≡◌, ◌<◌, ◌==◌, ◌||◌, ltb, leb, if◌then◌else◌, ℕ, Bool, List, length, slice_index}
 
--- What a byte of the file stands for: a new line for itself, each other byte between the marks for a blank, and outside of them a byte of
--- ASCII for itself, and each other byte for `_`.
+-- What a byte of the file stands for: outside of the marks for itself, and between them, if it isn't the end of a line, for a blank.
 abbrev pub plain_byte : Bool → ℕ → ℕ
-plain_byte is_outside byte = if byte == 10 then 10 else if is_outside then (if ltb byte 128 then byte else 95) else 32
+plain_byte is_outside byte = if byte == 10 then 10 else if is_outside then byte else 32
 
 -- Each byte of the file stands for itself, or what it is replaced by: those before index `start` and from index `end` on are outside of
 -- its marks, and the others between them.

@@ -77,8 +77,7 @@ fn generated(
     impls_of(alloc, home, file, all.as_slice(), known.as_slice())
 }
 
-/// Returns the bytes of the file, with blanks for what is between its marks, and `_` for each byte of a
-/// character beyond ASCII.
+/// Returns the bytes of the file, with blanks for what is between its marks.
 fn plain(alloc: Global, file: &str, outside: Outside) -> Result<Vec<u8>, ImplProblemAt>
     ensures { IfOk result (λ plain. IsPlain (length outside.entry.before.now)
         (length file.now - length outside.entry.after.now) file.now plain.items) }
@@ -107,8 +106,7 @@ fn plain_byte(byte: u8, is_outside: bool) -> u8
     match byte {
         b'\n' => b'\n',
         _ if !is_outside => b' ',
-        _ if byte.is_ascii() => byte,
-        _ => b'_',
+        _ => byte,
     }
 }
 

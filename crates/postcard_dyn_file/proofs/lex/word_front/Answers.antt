@@ -1,9 +1,9 @@
 use Rattle.std.proofs.Common.{◌≡◌, ◌<◌, false, length, get_or, arith}
 use Rattle.std.proofs.lemmas.Grind.{common_steps}
 use Rattle.std.specs.List.{AllPass}
-use Rattle.postcard_dyn_schema.specs.Text.{is_of_word}
 use Rattle.postcard_dyn_schema.specs.Phrases.{all_take}
-use Rattle.postcard_dyn_schema.specs.FrontLemmas.{ends_at}
+use Rattle.postcard_dyn_file.specs.Tokens.{is_of_word}
+use Rattle.postcard_dyn_file.proofs.Runs.{ends_at}
 use Rattle.postcard_dyn_file.proofs.lex.word_front.Goals.{then-letters-test+else-is_of_word, else-letters-test}
 use Rattle.postcard_dyn_file.proofs.lex.word_front.Goals as goal
 
@@ -15,4 +15,4 @@ returns c =
       | else-letters-test w ↦ absurd (omega (arith, low, w.letters-test.false))
     ] in
     let pass : AllPass is_of_word c.split_at.result.0.now = rw c.split_at.ensures.front (all_take is_of_word c.letters.count text c.letters.invariant.0 c.letters.invariant.1) in
-    (pass, rw c.split_at.ensures.back (ends_at c.letters.count text stops), c.split_at.ensures.by_index.0)
+    (pass, rw c.split_at.ensures.back (ends_at is_of_word c.letters.count text stops), c.split_at.ensures.by_index.0)

@@ -1,6 +1,6 @@
 -- The bytes so far may be part of a word.
 use Rattle.std.proofs.Common.{◌≡◌, ℕ, ◌-◌, ◌<◌, ◌≤◌, true, length, get_or}
-use Rattle.postcard_dyn_schema.specs.Text.{is_of_word}
+use Rattle.postcard_dyn_file.specs.Tokens.{is_of_word}
 use Rattle.postcard_dyn_file.proofs.lex.word_front.Given as goal
 
 abbrev pub invariant-letters : goal.invariant-letters
