@@ -3,6 +3,7 @@ use Rattle.std.proofs.Common.{◌≡◌, ◌≢◌, ℕ, ◌+◌, ◌*◌, ◌/�
 use Rattle.std.proofs.lemmas.Bool.{cases_eq, cases_lt, ne_eqb, le-ltb, lt-leb, lt-ltb, le-leb, and_parts, eqb-true, ltb-true, cases_Bool, cond-true, cond-false, and_from, and_left, and_right, agree_below_at, not-true, eqb-false}
 use Rattle.std.proofs.lemmas.Str.{chars-encodes, encode_ascii}
 use Rattle.std.specs.Char.{digit_char, digit_value, is_digit}
+use Rattle.std.specs.List.{AllPass}
 use Rattle.std.specs.Str.{chars}
 use lib.Utf8.{encode, encodes, next}
 use Rattle.json.specs.Text.{content, plain, prepend, code_unit, short_escape}
@@ -10,6 +11,7 @@ use Rattle.json.specs.Word.{is_operator, is_space}
 use Rattle.json.specs.Lex.{Lexeme, Mode, lex, lex_byte, between, in_string, operator, space, other}
 use Rattle.json.specs.Print.{escape_byte, escape}
 use Rattle.json.proofs.Printed.Strings.{escape_byte_plain}
+use Rattle.postcard_dyn_schema.specs.FrontLemmas.{pass_head, pass_tail}
 use Rattle.postcard_dyn_json.specs.Escaped.{unit_escape, escaped_char, escaped}
 
 -- ---- the bytes
@@ -114,9 +116,20 @@ unfolding bytes_after
 chars_bytes [] = refl
 chars_bytes (c ∷ cs) = char_bytes c (encodes cs) ∙ ap (λ s. escaped_char c ++ s) (chars_bytes cs)
 
+plain_bytes : (bs : List ℕ) → AllPass (λ byte. nat_lt byte 127) bs → bytes_of bs ≡ bs
+unfolding bytes_after
+plain_bytes [] pass = refl
+plain_bytes (b ∷ bs) pass =
+    let low : b < 127 = ltb-true b 127 (pass_head (λ byte. nat_lt byte 127) b bs pass) in
+    one_byte b bs (λ e. omega (arith, low)) (λ e. omega (arith, low)) ∙ ap (λ s. b ∷ s) (plain_bytes bs (pass_tail (λ byte. nat_lt byte 127) b bs pass))
+
 pub escaped_bytes : (text : List ℕ) → IsUtf8 text → escaped text ≡ bytes_of text
 escaped_bytes text (cs, (are, e)) =
     ap (λ t. flat_map escaped_char (chars t)) (sym e) ∙ ap (flat_map escaped_char) (chars-encodes cs are) ∙ sym (chars_bytes cs) ∙ ap bytes_of e
+
+-- A text of bytes below 127 has no escape.
+pub plain_text : (text : List ℕ) → IsUtf8 text → AllPass (λ byte. nat_lt byte 127) text → escaped text ≡ text
+plain_text text utf8 pass = escaped_bytes text utf8 ∙ plain_bytes text pass
 
 -- ---- strings
 

@@ -1,6 +1,8 @@
 //! JSON as text: [`json_text`].
 
-ghost use Rattle.std.specs.Prelude.{◌≡◌, ◌<◌, ◌≤◌, IfOk, OnOk, ◌++◌, Some, false, string_bytes};
+ghost use Rattle.std.specs.Prelude.{◌≡◌, ◌<◌, ◌≤◌, IfOk, OnOk, IsTrue, ◌++◌, Some, false};
+ghost use Rattle.std.specs.Prelude.{nat_lt, string_bytes};
+ghost use Rattle.std.specs.List.{AllPass};
 ghost use Rattle.postcard_dyn_json.specs.{IsInOrder, compact_text, depth, digit_char, escaped};
 ghost use Rattle.postcard_dyn_json.specs.{escaped_char, has_float, max_depth, print, read, tokens};
 ghost use Rattle.postcard_dyn_json.specs.{view};
@@ -27,10 +29,20 @@ pub fn json_text(alloc: Global, json: &Json) -> Result<String, AllocError>
     with_escapes(alloc, &printed)
 }
 
+/// Returns whether each byte is below 127, as in most texts, which are copied in one piece.
+fn is_plain(bytes: &[u8]) -> bool
+    ensures { IsTrue result → AllPass (λ byte. nat_lt byte 127) bytes.now }
+{
+    bytes.iter().all(|byte| *byte < 127)
+}
+
 /// Returns a text with its control characters as escapes.
 fn with_escapes(alloc: Global, text: &str) -> Result<String, AllocError>
     ensures { IfOk result (λ shown. string_bytes shown ≡ escaped text.now) }
 {
+    if is_plain(text.as_bytes()) {
+        return String::from_str(alloc, text);
+    }
     let mut shown = String::new(alloc);
     for c in text.chars() {
         push_escaped(&mut shown, c)?;
