@@ -74,11 +74,7 @@ impl Files for Disk<'_> {
 /// # Errors
 ///
 /// Fails with `OutOfMemory` if an allocation fails, and with `Failed` if the reader does.
-fn first_bytes<R: Read + Drop>(
-    alloc: Global,
-    reader: R,
-    most: usize,
-) -> Result<Vec<u8>, ReadError>
+fn first_bytes<R: Read + Drop>(alloc: Global, reader: R, most: usize) -> Result<Vec<u8>, ReadError>
     ensures first { IfOk result (λ bytes. IfSome (R.remaining reader)
         (λ content. bytes.items ≡ take most content)) }
     ensures bounded { IfOk result (λ bytes. length bytes.items ≤ most) }
