@@ -5,4 +5,4 @@ use Rattle.postcard_cli.proofs.ExplainLemmas.{counted}
 use Rattle.postcard_cli.proofs.explain.layout_of.Given as goal
 
 abbrev pub invariant-loop-line : goal.invariant-loop-line
-invariant-loop-line g l = l.count ≡ counted (length (bytes_of (take l.line-index l.line-items)))
+invariant-loop-line l = l.count ≡ counted (length (bytes_of (take l.line-index l.line-items)))

@@ -1,4 +1,4 @@
-use Rattle.std.proofs.Common.{◌≡◌, ◌-◌, ◌^◌, ◌+◌, ◌++◌, length, subst, ap, ◌∙◌, arith, length-append}
+use Rattle.std.proofs.Common.{◌≡◌, ℕ, List, ◌-◌, ◌^◌, ◌+◌, ◌*◌, ◌++◌, length, subst, sym, ap, ◌∙◌, arith, length-append}
 use Rattle.std.specs.Prelude.{codes, drop, min, replicate}
 use Rattle.std.specs.Io.KnownBytes.{Appends}
 use Rattle.std.proofs.KnownBytes.{Appends-trans}
@@ -16,8 +16,10 @@ returns-clause-printed g c =
     let fits : min c.args.at (2 ^ 64 - 1) ≡ c.args.at = omega arith in
     let shown = c.split_at.ensures.back ∙ ap (λ n. drop n c.to_be_bytes-digits.result) c.saturating_sub.ensures
     ∙ ap (λ d. drop (8 - layout.offset) d) c.to_be_bytes-digits.ensures in
-    let pad = min c.blanks 64 in
-    let blanks = replicate pad 32 in (
+    let size : length (offset_text layout c.args.at) ≡ 2 * length c.split_at.result.1.now =
+    rw fits (sym (ap (λ d. length (encode_lower d)) shown) ∙ length-encode_with lower_digits c.split_at.result.1.now) in
+    let pad = min (c.saturating_sub-2.result + 1 + 2 * c.min.result) 64 in
+    let blanks : List ℕ = replicate pad 32 in (
       pad,
       rw fits
           (Appends-trans _ _ _ _ _ (subst (λ d. Appends (g.W.Write.contents c.args.output.now) (g.W.Write.contents c.write.new.output) (encode_lower d)) shown c.in_ok-write.ensures)
@@ -29,8 +31,7 @@ returns-clause-printed g c =
         length-append (codes "  ") (bytes_text layout bytes ++ blanks),
         length-append (bytes_text layout bytes) blanks,
         length-bytes_text layout bytes cut,
-        length-replicate pad 32,
-        length-encode_with lower_digits c.split_at.result.1.now,
-        rw fits (ap (λ d. length (encode_lower d)) shown),
+        length-replicate {A = ℕ} pad 32,
+        size,
       ),
     )
