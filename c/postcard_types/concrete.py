@@ -2,9 +2,9 @@
 from dataclasses import replace
 
 from .attributes import check_declaration, meaning_of
-from .depth import height_of
-from .items import MAX_DEPTH, item_of
+from .items import item_of
 from .known import Use, list_of
+from .limits import MAX_DEPTH, MAX_WORDS, height_of, words_of
 from .model import MOST, UNIT, Array, Bytes, Case, Definition, List_, Member, Model, Named, Number, Option, Result, Text, Tuple_
 from .syntax import Choice, Count, Entries, Fields, Group, Maybe, Path, Sequence
 from .tokens import Refused
@@ -72,14 +72,14 @@ class Resolver:
             return Tuple_(tuple(parts)) if parts else UNIT
         if isinstance(part, Entries):
             entry = (self.kind(part.key, scope, f"{owner}_key"), self.kind(part.value, scope, f"{owner}_value"))
-            return list_of(self.model, part.token, Tuple_(entry), None, True)
+            return list_of(self.model, part.key.token, Tuple_(entry), None, True)
         if isinstance(part, Maybe):
             return Option(self.kind(part.content, scope, owner))
         return self.define(Named(self.new_name(owner)), part, scope)
 
     def sequence(self, part, element):
         """Returns the type of a list or an array of these elements."""
-        listed = list_of(self.model, part.token, element, None)
+        listed = list_of(self.model, part.element.token, element, None)
         if part.count is None:
             return listed
         if part.count > MOST:
@@ -106,7 +106,7 @@ class Resolver:
             return self.declared(part, types, counts)
         if any(count.number > MOST for count in counts):
             raise Refused(part.token.place, f"a count above {MOST} can't be had")
-        kind = Use(self.model, part.token, types, [count.number for count in counts]).kind()
+        kind = Use(self.model, part, types, [count.number for count in counts]).kind()
         if kind is None:
             raise Refused(part.token.place, f"`{name}`: no declaration of this file, and no type that is known")
         return kind
@@ -186,6 +186,8 @@ class Resolver:
         kind = self.instance(item.token, item, ())
         if height_of(self.items, name) > MAX_DEPTH:
             raise Refused(item.token.place, "nested too deeply")
+        if words_of(self.file, name) > MAX_WORDS:
+            raise Refused(item.token.place, "this type is too long")
         if item.kind == "type" and kind != Named(name):
             self.model.aliases.append((name, kind, item.docs, item.token.place))
             self.model.alias_of.setdefault(kind, name)
@@ -198,6 +200,8 @@ def model_of(file, only=(), capacities=()):
     for name in only:
         if name not in file.declared:
             raise Refused(file.end, f"no declaration has the name `{name}`")
+        if resolver.item(name).parameters:
+            raise Refused(file.place(file.declared[name].start), f"`{name}` has parameters: declare `type Name = {name}<..>;`")
     for name in file.declared:
         if not only or name in only:
             resolver.add_root(name)

@@ -2,10 +2,13 @@
 `u32?` or `Boot | Fault(u8)`.
 """
 from .declarations import number_of
+from .limits import MAX_DEPTH
 from .syntax import Choice, Count, Entries, Field, Fields, Group, Item, Maybe, Path, Sequence, Variant
 from .tokens import Refused, Token
 
-MAX_DEPTH, MAX_OPTIONS = 64, 4
+MAX_OPTIONS = 4
+# Words that begin a type of Rust without messages.
+UNWRITTEN = frozenset(("dyn", "impl", "fn", "unsafe", "extern"))
 
 
 class Cursor:
@@ -88,9 +91,10 @@ def read_struct(cursor, has_parameters):
 
 
 def read_enum(cursor, _):
-    opening = cursor.token
+    opening, variants = cursor.token, []
     cursor.expect("{")
-    variants = []
+    if cursor.token.text == "}":
+        cursor.refuse("an enum without variants has no values")
     while not cursor.take("}"):
         variants.append(read_variant(cursor, variants, MAX_DEPTH - 2))
         if cursor.take("="):
@@ -98,8 +102,6 @@ def read_enum(cursor, _):
                 cursor.at += 1
         if cursor.token.text != "}":
             cursor.expect(",", "expected `,` or `}`")
-    if not variants:
-        cursor.refuse("an enum without variants has no values", opening)
     return Choice(opening, variants)
 
 
@@ -214,6 +216,8 @@ def read_plain(cursor, depth):
         return read_braces(cursor, first, depth)
     if not first.is_name:
         cursor.refuse("expected a type")
+    if first.text in UNWRITTEN:
+        cursor.refuse(f"`{first.text}`: values of this type aren't written and read")
     cursor.next()
     return Path(first, read_arguments(cursor, depth) if cursor.take("<") else [])
 

@@ -24,11 +24,12 @@ def list_of(model, token, element, most, is_map=False):
 
 
 class Use:
-    """The use of a name with its arguments: the types and the numbers in its `<` and `>`."""
+    """The use of a name with its arguments, a `Path`: the types and the numbers in its `<` and `>`."""
 
-    def __init__(self, model, token, types, counts):
-        self.model, self.token, self.types, self.counts = model, token, types, counts
-        self.name = token.text
+    def __init__(self, model, path, types, counts):
+        self.model, self.token, self.types, self.counts = model, path.token, types, counts
+        self.name = path.token.text
+        self.first = path.arguments[0].token if path.arguments else path.token
 
     def refuse(self, what):
         raise Refused(self.token.place, f"`{self.name}`{what}")
@@ -60,10 +61,10 @@ class Use:
         name = self.name
         if name in LISTS or name in SETS:
             self.require(1, 1, name in SETS)
-            return list_of(self.model, self.token, self.types[0], self.most)
+            return list_of(self.model, self.first, self.types[0], self.most)
         if name in MAPS:
             self.require(2, 1, 1)
-            return list_of(self.model, self.token, Tuple_(tuple(self.types[:2])), self.most, True)
+            return list_of(self.model, self.first, Tuple_(tuple(self.types[:2])), self.most, True)
         if name in TEXTS and self.counts:
             self.require(0, 1)
             return Text(self.most)

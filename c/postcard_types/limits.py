@@ -1,7 +1,26 @@
-"""How deep a type nests: its levels, with declared names replaced. A type in brackets, in `<` and `>`, in the fields of a struct or the
-variants of an enum is one level below, and the content of a declared enum two.
+"""How long a type is and how deep it nests, with declared names replaced. A type in brackets, in `<` and `>`, in the fields of a struct or
+the variants of an enum is one level below, and the content of a declared enum two. The program `pcard` has the same limits.
 """
 from .syntax import Choice, Count, Entries, Fields, Group, Maybe, Path, Sequence
+from .tokens import text_at
+
+MAX_DEPTH, MAX_WORDS = 64, 65_536
+
+
+def words_of(file, name, known=None):
+    """Returns how many words and signs the type has that a declaration declares. No type has itself in it. `known` has the numbers of
+    other names."""
+    known = {} if known is None else known
+    if name not in known:
+        declaration, count, is_discriminant = file.declared[name], 0, False
+        for at in range(declaration.start, declaration.end):
+            token, is_enum = file.tokens[at], declaration.kind == "enum"
+            if is_enum and token.depth == 1 and token.text in (",", "="):
+                is_discriminant = token.text == "="
+            is_member = text_at(file.tokens, at + 1) == ":" or is_enum and (token.depth == 1 or is_discriminant)
+            count += words_of(file, token.text, known) if token.text in file.declared and not is_member else 1
+        known[name] = count
+    return known[name]
 
 
 def height_of(items, name, known=None):
