@@ -1,5 +1,6 @@
 """What a value of a message may be made of, and why a message or a value is refused."""
 import struct
+from typing import List
 
 BUFFER_FULL, UNEXPECTED_END, BAD_VARINT, BAD_BOOL, BAD_CHAR, BAD_UTF8, BAD_OPTION = 2, 4, 5, 6, 7, 8, 9
 BAD_FRAME, BAD_CRC, BAD_VALUE, NO_VALUE = 11, 12, 13, 14
@@ -67,6 +68,9 @@ BAD_VALUES = (TypeError, ValueError, AttributeError, OverflowError, struct.error
 
 class BadField(ValueError):
     """A value that can't be written: the names of the fields that lead to it, and why."""
+
+    path: List[str]
+    reason: str
 
     def __init__(self, name, problem):
         inner = problem.path if isinstance(problem, BadField) else []

@@ -10,7 +10,9 @@ from .tokens import Refused
 
 # Names of `postcard_runtime.Message` and of every class, and those that a module of messages imports.
 METHODS = frozenset(("encode", "decode", "take", "frame", "unframe", "mro", "name", "value", "_codec"))
-IMPORTED = frozenset(("_p", "_n", "_c", "_dataclass", "_enum", "_t", "annotations"))
+# Types of Python by which fields are declared.
+HINTED = frozenset(("int", "str", "bytes", "float", "bool"))
+IMPORTED = frozenset(("_p", "_n", "_c", "_dataclass", "_enum", "_importlib", "_t", "annotations"))
 
 
 def hides_module(stem):
@@ -24,7 +26,7 @@ def member(name):
     """Returns the name of a field or of a part of a tuple."""
     if name[0].isdigit():
         return f"_{name}"
-    return f"{name}_" if keyword.iskeyword(name) or name in METHODS or name.startswith("__") else name
+    return f"{name}_" if keyword.iskeyword(name) or name in METHODS or name in HINTED or name.startswith("__") else name
 
 
 def variant(name):

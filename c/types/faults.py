@@ -1,6 +1,7 @@
 """faults.py LIBRARY: requires that the tests of generated code fail for each fault of faults.txt.
 
-LIBRARY is the folder with postcard.h and libpostcard.a. The files without a fault must pass first.
+LIBRARY is the folder with postcard.h and libpostcard.a. The files without a fault must pass first. A fault that the tests don't see is
+tried once more with sanitizers, which take longer to compile.
 """
 import os
 import resource
@@ -10,10 +11,11 @@ import sys
 import tempfile
 
 HERE = os.path.dirname(os.path.abspath(__file__))
-COUNT, SEED = "1000", "5"
+COUNT, SEED = "800", "5"
 # The seconds of a processor that a test may take. A fault may make one endless.
 SECONDS = 8
-FLAGS = "-std=c99 -g -O0 -w -fsanitize=address,undefined -fno-sanitize-recover".split()
+FLAGS = "-std=c99 -O0 -w".split()
+SANITIZERS = "-g -fsanitize=address,undefined -fno-sanitize-recover".split()
 
 
 def faults():
@@ -29,10 +31,10 @@ def faults():
 
 
 class Tests:
-    """The tests of generated code, in a folder."""
+    """The tests of generated code, in a new folder, compiled with these flags."""
 
-    def __init__(self, folder, library):
-        self.folder, self.library = folder, library
+    def __init__(self, folder, library, flags):
+        self.folder, self.library, self.flags = folder, library, flags
         shutil.copytree(os.path.join(os.path.dirname(HERE), "postcard_runtime"), os.path.join(folder, "postcard_runtime"))
         for name in os.listdir(os.path.join(HERE, "generated")):
             shutil.copy(os.path.join(HERE, "generated", name), folder)
@@ -57,11 +59,11 @@ class Tests:
 
     def compiled(self, name):
         compiler = os.environ.get("CC", "cc")
-        return self.run(compiler, *FLAGS, f"-I{self.library}", "-c", f"{name}.c", "-o", f"{name}.o") == 0
+        return self.run(compiler, *self.flags, f"-I{self.library}", "-c", f"{name}.c", "-o", f"{name}.o") == 0
 
     def linked(self, name, *objects):
         library = os.path.join(self.library, "libpostcard.a")
-        return self.run(os.environ.get("CC", "cc"), *FLAGS, *objects, library, "-o", name) == 0
+        return self.run(os.environ.get("CC", "cc"), *self.flags, *objects, library, "-o", name) == 0
 
     def pass_in_c(self, stem, anew):
         """Returns whether the tests in C pass, once these files are compiled again."""
@@ -106,13 +108,15 @@ class Tests:
 
 def main():
     wrong = []
-    with tempfile.TemporaryDirectory() as folder:
-        tests = Tests(folder, os.path.abspath(sys.argv[1]))
-        for file in ("sensor.c", "forms.c", "numbers.py"):
-            if not tests.passes(file):
-                wrong.append(f"{file}: the tests fail without a fault")
+    with tempfile.TemporaryDirectory() as plain, tempfile.TemporaryDirectory() as sanitized:
+        library = os.path.abspath(sys.argv[1])
+        all_tests = [Tests(plain, library, FLAGS), Tests(sanitized, library, FLAGS + SANITIZERS)]
+        for tests in all_tests:
+            for file in ("sensor.c", "forms.c", "numbers.py"):
+                if not tests.passes(file):
+                    wrong.append(f"{file}: the tests fail without a fault")
         for file, what, before, after in [] if wrong else faults():
-            if not tests.sees(file, before, after):
+            if not any(tests.sees(file, before, after) for tests in all_tests):
                 wrong.append(f"{file}: {what}: no test sees it")
     for line in wrong:
         print(line)

@@ -9,8 +9,8 @@ import kinds
 from cases import Cases
 from oracle import bits
 
-# Words of Python, and names of a class of messages, that are names in the files of declarations here.
-WORDS = {"def", "class", "lambda", "None", "True", "False", "value", "encode", "frame", "from", "name"}
+# Words and types of Python, and names of a class of messages, that are names in the files of declarations here.
+WORDS = {"def", "class", "lambda", "None", "True", "False", "value", "encode", "frame", "int", "from", "name"}
 
 
 def named(name):

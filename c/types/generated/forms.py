@@ -2,15 +2,16 @@
 from __future__ import annotations
 
 import enum as _enum
+import importlib as _importlib
 import typing as _t
 from dataclasses import dataclass as _dataclass
 
-try:
-    from . import postcard_runtime as _p
-    from .postcard_runtime import containers as _c, numbers as _n
-except ImportError:
+if _t.TYPE_CHECKING or not __package__:
     import postcard_runtime as _p
     from postcard_runtime import containers as _c, numbers as _n
+else:
+    _p = _importlib.import_module(".postcard_runtime", __package__)
+    _c, _n = _p.containers, _p.numbers
 
 
 @_dataclass
@@ -1847,8 +1848,8 @@ Expressions._codec = _c.record(Expressions, ['a', 'b', 'c', 'd', 'e'], _c.option
 @_dataclass
 class Words(_p.Message):
     """Names that are words of C, of C++ or of Python, or that generated code has."""
-    __slots__ = ("int", "class_", "new", "def_", "lambda_", "unix", "value_", "writer", "encode_", "frame_", "name_", "errno", "None_",)
-    int: int
+    __slots__ = ("int_", "class_", "new", "def_", "lambda_", "unix", "value_", "writer", "encode_", "frame_", "name_", "errno", "None_",)
+    int_: int
     class_: int
     new: int
     def_: int
@@ -1863,7 +1864,7 @@ class Words(_p.Message):
     None_: _t.Optional[_p.Some]
 
 
-Words._codec = _c.record(Words, ['int', 'class_', 'new', 'def_', 'lambda_', 'unix', 'value_', 'writer', 'encode_', 'frame_', 'name_', 'errno', 'None_'], _n.unsigned(8), _n.unsigned(8), _n.unsigned(8), _n.unsigned(8), _n.unsigned(8), _n.unsigned(8), _n.unsigned(8), _n.unsigned(8), _n.unsigned(8), _n.unsigned(8), _n.unsigned(8), _n.unsigned(8), _c.option(_n.unit, True))
+Words._codec = _c.record(Words, ['int_', 'class_', 'new', 'def_', 'lambda_', 'unix', 'value_', 'writer', 'encode_', 'frame_', 'name_', 'errno', 'None_'], _n.unsigned(8), _n.unsigned(8), _n.unsigned(8), _n.unsigned(8), _n.unsigned(8), _n.unsigned(8), _n.unsigned(8), _n.unsigned(8), _n.unsigned(8), _n.unsigned(8), _n.unsigned(8), _n.unsigned(8), _c.option(_n.unit, True))
 
 
 @_dataclass

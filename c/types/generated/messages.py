@@ -2,15 +2,16 @@
 from __future__ import annotations
 
 import enum as _enum
+import importlib as _importlib
 import typing as _t
 from dataclasses import dataclass as _dataclass
 
-try:
-    from . import postcard_runtime as _p
-    from .postcard_runtime import containers as _c, numbers as _n
-except ImportError:
+if _t.TYPE_CHECKING or not __package__:
     import postcard_runtime as _p
     from postcard_runtime import containers as _c, numbers as _n
+else:
+    _p = _importlib.import_module(".postcard_runtime", __package__)
+    _c, _n = _p.containers, _p.numbers
 
 
 class FixKind(_p.Message, _enum.IntEnum):
