@@ -5,8 +5,6 @@
  *     err STATUS PLACE
  *
  * It aborts where a call does something else than the header says. */
-#include <inttypes.h>
-#include <stdarg.h>
 #include <stdio.h>
 #include <stdlib.h>
 
@@ -28,33 +26,45 @@ static void give_back(void) {
     while (block_count) free(blocks[--block_count]);
 }
 
-static void printf_(const char *form, ...) {
-    va_list all;
-    va_start(all, form);
-    if (!is_quiet) vprintf(form, all);
-    va_end(all);
+static void text(const char *it) {
+    if (!is_quiet) fputs(it, stdout);
 }
 
-static void text(const char *it) { printf_("%s", it); }
-static void whole(int64_t value) { printf_("%" PRId64, value); }
-static void natural(uint64_t value) { printf_("%" PRIu64, value); }
-static void wide(uint64_t low, uint64_t high) { printf_("%016" PRIx64 "%016" PRIx64, high, low); }
+static void natural(uint64_t value) {
+    char digits[21], *at = digits + 20;
+    for (*at = 0; value > 9; value /= 10) *--at = (char)('0' + value % 10);
+    *--at = (char)('0' + value);
+    text(at);
+}
+
+static void whole(int64_t value) {
+    if (value < 0) text("-");
+    natural(value < 0 ? 0 - (uint64_t)value : (uint64_t)value);
+}
+
+static void hex(uint64_t value, int count) {
+    char digits[17] = {0};
+    for (int i = count; i > 0; value >>= 4) digits[--i] = "0123456789abcdef"[value & 15];
+    text(digits);
+}
+
+static void wide(uint64_t low, uint64_t high) { hex(high, 16), hex(low, 16); }
 static void show_bool(bool value) { text(value ? "true" : "false"); }
 
 static void show_f32(float value) {
     uint32_t bits;
     memcpy(&bits, &value, sizeof bits);
-    printf_("f%08" PRIx32, bits);
+    text("f"), hex(bits, 8);
 }
 
 static void show_f64(double value) {
     uint64_t bits;
     memcpy(&bits, &value, sizeof bits);
-    printf_("f%016" PRIx64, bits);
+    text("f"), hex(bits, 16);
 }
 
 static void digits(const void *bytes, size_t size) {
-    for (size_t i = 0; i < size; i++) printf_("%02x", ((const uint8_t *)bytes)[i]);
+    for (size_t i = 0; i < size; i++) hex(((const uint8_t *)bytes)[i], 2);
 }
 
 static void hexadecimal(const void *bytes, size_t size) {
@@ -92,13 +102,13 @@ static void hexadecimal(const void *bytes, size_t size) {
     if (status != reader.status) abort();                                                                             \
     if (whole_ != (status ? status : reader.at == (size) ? POSTCARD_OK : POSTCARD_NO_VALUE)) abort();                 \
     if (status) {                                                                                                     \
-        printf_("err %u %zu\n", (unsigned)status, reader.at);                                                         \
+        text("err "), natural(status), text(" "), natural(reader.at), text("\n");                                      \
         is_quiet = true;                                                                                              \
         dump_##T(value);                                                                                              \
         is_quiet = false;                                                                                             \
         return;                                                                                                       \
     }                                                                                                                 \
-    printf_("ok %zu ", reader.at);                                                                                    \
+    text("ok "), natural(reader.at), text(" ");                                                                       \
     dump_##T(value);                                                                                                  \
     WRITE(T, value, written, used);                                                                                   \
     thaw_##T(value);                                                                                                  \

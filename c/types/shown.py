@@ -175,7 +175,7 @@ class C:
             return self.dump_list(kind)
         if kind[0] != "result" and self.oracle.declared[kind[1]].kind == "struct":
             return self.sequence(self.pieces(kind, place)) + ["(void)value;"]
-        return [f'printf_("#%u", {self.index(kind, place)});', *self.switch(kind, place, self.sequence)]
+        return [f'text("#"), natural({self.index(kind, place)});', *self.switch(kind, place, self.sequence)]
 
     def dump_list(self, kind):
         element = ("tuple", kind[1:3]) if kind[0] == "map" else kind[1]
