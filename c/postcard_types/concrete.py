@@ -5,7 +5,9 @@ from .attributes import check_declaration, meaning_of
 from .items import item_of
 from .known import Use, list_of
 from .limits import MAX_DEPTH, MAX_WORDS, height_of, words_of
-from .model import MOST, UNIT, Array, Bytes, Case, Definition, List_, Member, Model, Named, Number, Option, Result, Text, Tuple_
+from .model import (
+    MOST, UNIT, Array, Bytes, Case, Definition, List_, Member, Model, Named, Number, Option, Result, Text, TooLong, Tuple_, inner_of,
+)
 from .syntax import Choice, Count, Entries, Fields, Group, Maybe, Path, Sequence
 from .tokens import Refused
 
@@ -34,9 +36,10 @@ def capped(kind, numbers):
 
 def capacities_of(kind):
     """Returns how many capacities a type takes."""
-    wanted = [0] * 1000
-    capped(kind, wanted)
-    return 1000 - len(wanted)
+    if isinstance(kind, Named):
+        return 0
+    takes_one = isinstance(kind, (Text, Bytes, List_)) and kind.most is None
+    return takes_one + sum(map(capacities_of, inner_of(kind)))
 
 
 class Resolver:
@@ -183,7 +186,10 @@ class Resolver:
         if item.parameters:
             self.model.skipped.append(name)
             return
-        kind = self.instance(item.token, item, ())
+        try:
+            kind = self.instance(item.token, item, ())
+        except TooLong:
+            raise Refused(item.token.place, "this type is too long") from None
         if height_of(self.items, name) > MAX_DEPTH:
             raise Refused(item.token.place, "nested too deeply")
         if words_of(self.file, name) > MAX_WORDS:

@@ -3,8 +3,22 @@ from dataclasses import dataclass, field
 from typing import Any, List, Optional, Tuple
 
 DIGITS = {16: 3, 32: 5, 64: 10, 128: 19}
-# The most bytes of the message of a type that is written to C, and the greatest capacity.
-MOST = 2**31 - 1
+# The most bytes of the message of a type that is written to C, and the greatest capacity; and the most types in a type.
+MOST, MOST_PARTS = 2**31 - 1, 65_536
+
+
+class TooLong(Exception):
+    """A type is made of more than `MOST_PARTS` others."""
+
+
+class Compound:
+    """A type that is made of others. `weight` is how many there are in it, itself included."""
+
+    def __post_init__(self):
+        weight = 1 + sum(getattr(each, "weight", 1) for each in inner_of(self))
+        if weight > MOST_PARTS:
+            raise TooLong
+        object.__setattr__(self, "weight", weight)
 
 
 @dataclass(frozen=True)
@@ -47,12 +61,12 @@ class Bytes:
 
 
 @dataclass(frozen=True)
-class Option:
+class Option(Compound):
     content: Any
 
 
 @dataclass(frozen=True)
-class List_:
+class List_(Compound):
     """Counted elements. The entries of a map are its elements, tuples of a key and a value."""
 
     element: Any
@@ -61,24 +75,24 @@ class List_:
 
 
 @dataclass(frozen=True)
-class Array:
+class Array(Compound):
     element: Any
     count: int
 
 
 @dataclass(frozen=True)
-class Tuple_:
+class Tuple_(Compound):
     parts: Tuple[Any, ...]
 
 
 @dataclass(frozen=True)
-class Result:
+class Result(Compound):
     ok: Any
     err: Any
 
 
 @dataclass(frozen=True)
-class Named:
+class Named(Compound):
     """A struct or an enum, whose parameters are these arguments."""
 
     name: str
@@ -127,6 +141,19 @@ UNIT = Scalar("unit")
 BYTE = Number("u8")
 
 
+def inner_of(kind):
+    """Returns the types that a type is made of: the arguments of a named one."""
+    if isinstance(kind, (List_, Array)):
+        return [kind.element]
+    if isinstance(kind, Option):
+        return [kind.content]
+    if isinstance(kind, Result):
+        return [kind.ok, kind.err]
+    if isinstance(kind, Tuple_):
+        return list(kind.parts)
+    return list(kind.arguments) if isinstance(kind, Named) else []
+
+
 def varint_size(number):
     """Returns the bytes of a number's varint."""
     return max(1, -(-number.bit_length() // 7))
@@ -164,14 +191,8 @@ class Model:
 
     def needs(self, kind):
         """Returns the types that the declaration of a type names."""
-        if isinstance(kind, (Option, List_, Array)):
-            return [kind.content if isinstance(kind, Option) else kind.element]
-        if isinstance(kind, Result):
-            return [kind.ok, kind.err]
-        if isinstance(kind, Tuple_):
-            return list(kind.parts)
         if not isinstance(kind, Named):
-            return []
+            return inner_of(kind)
         definition = self.definitions[kind]
         return [member.kind for case in [definition, *definition.cases] for member in case.members]
 

@@ -12,6 +12,7 @@ LIFETIME = re.compile(r"'[A-Za-z0-9_]+(?!['A-Za-z0-9_]),?")
 RAW_OPENING = re.compile(r'(?:r|br|cr)(#*)"')
 WORD = re.compile(r"[A-Za-z0-9_]+")
 LITERAL = re.compile(r'"(?:\\.|[^"\\])*"|\'(?:\\.|[^\'\\])*\'', re.DOTALL)
+CONTROL = re.compile("[\x00-\x1f\x7f-\x9f\u2028\u2029]")
 NAME = re.compile(r"[A-Za-z_][A-Za-z0-9_]*")
 
 
@@ -104,12 +105,13 @@ class Scanner:
 
 
 def docs_of(comment):
-    """Returns the lines of a doc comment, or none for another comment."""
+    """Returns the lines of a doc comment without control characters, or none for another comment."""
+    lines = []
     if comment.startswith("///") and not comment.startswith("////"):
-        return [comment[3:].strip()]
-    if comment.startswith("/**") and not comment.startswith("/***") and len(comment) > 4:
-        return [line.strip().lstrip("*").strip() for line in comment[3:-2].split("\n")]
-    return []
+        lines = [comment[3:]]
+    elif comment.startswith("/**") and not comment.startswith("/***") and len(comment) > 4:
+        lines = [line.strip().lstrip("*") for line in comment[3:-2].split("\n")]
+    return [CONTROL.sub(" ", line).strip() for line in lines]
 
 
 def all_tokens(text):

@@ -54,6 +54,9 @@ FILES = [
     ("struct A { r#b: u8 }", "line 1, column 13: expected `:`"),
     ("struct A { b: u8 c: u8 }", "line 1, column 18: expected `,` or `}`"),
     ("struct A(" + "Vec<" * 63 + "u8" + ">" * 63 + ");", "line 1, column 262: nested too deeply"),
+    # The words of S14 are 8 * 2^14 - 4, and those of S13 are 65,532.
+    ("struct S0(u8);" + "".join(f"struct S{it}(S{it - 1}, S{it - 1});" for it in range(1, 60)), "line 1, column 266: this type is too long"),
+    ("type P<T> = (T, T); struct A(" + "P<" * 50 + "u8" + ">" * 50 + ");", "line 1, column 28: this type is too long"),
     ("struct A(u8" + "?" * 5 + ");", "line 1, column 16: nested too deeply"),
 ]
 # Words of a call, a file, and what is said.
