@@ -78,7 +78,7 @@ class Message:
         except BAD_VALUES as problem:
             raise Error(BAD_VALUE, None, f"{type(self).__qualname__}: {problem}") from None
         message = bytes(out)
-        return message + _checksum(message, crc)
+        return message if crc is None else message + _checksum(message, crc)
 
     @classmethod
     def decode(cls: Type[AnyMessage], message: bytes, crc: Optional[int] = None) -> AnyMessage:
@@ -94,6 +94,8 @@ class Message:
         """Returns the value of the message that some bytes begin with, and the bytes after it."""
         message = bytes(message)
         value, at = cls._codec[1](message, 0)
+        if crc is None:
+            return value, message[at:]
         end = at + len(_checksum(b"", crc))
         if end > len(message):
             raise Error(UNEXPECTED_END, at)
