@@ -200,9 +200,8 @@ class Functions:
             return self.get_bytes(kind, place)
         if isinstance(kind, Option):
             some = part(place, "some")
-            call = f"postcard_get_option(reader, &{some})"
             inner = self.get(kind.content, part(place, "value"), level)
-            return [f"{some} = false;", *(block(f"if ({call} == POSTCARD_OK && {some})", inner) or [f"{call};"])]
+            return [f"{some} = false;", f"postcard_get_option(reader, &{some});", *block(f"if ({some})", inner)]
         if isinstance(kind, Array):
             if kind.element == BYTE:
                 return [f"get_array_(reader, {place}, {kind.count}u);"]

@@ -221,7 +221,8 @@ postcard_status forms_option_nonzero_u64_put(postcard_writer *writer, const form
 
 postcard_status forms_option_nonzero_u64_get(postcard_reader *reader, forms_option_nonzero_u64 *value) {
     value->some = false;
-    if (postcard_get_option(reader, &value->some) == POSTCARD_OK && value->some) {
+    postcard_get_option(reader, &value->some);
+    if (value->some) {
         {
             size_t start = reader->at;
             value->value = 0;
@@ -271,7 +272,8 @@ postcard_status NonZeros_get(postcard_reader *reader, NonZeros *value) {
         if (value->c == 0) bad_message_(reader, start);
     }
     value->d.some = false;
-    if (postcard_get_option(reader, &value->d.some) == POSTCARD_OK && value->d.some) {
+    postcard_get_option(reader, &value->d.some);
+    if (value->d.some) {
         {
             size_t start = reader->at;
             value->d.value = 0;
@@ -300,7 +302,8 @@ postcard_status forms_option_bool_put(postcard_writer *writer, const forms_optio
 
 postcard_status forms_option_bool_get(postcard_reader *reader, forms_option_bool *value) {
     value->some = false;
-    if (postcard_get_option(reader, &value->some) == POSTCARD_OK && value->some) {
+    postcard_get_option(reader, &value->some);
+    if (value->some) {
         value->value = false;
         postcard_get_bool(reader, &value->value);
     }
@@ -328,7 +331,8 @@ postcard_status forms_list3_option_bool_get(postcard_reader *reader, forms_list3
     if (count > 3u) return bad_message_(reader, start), reader->status;
     for (size_t i = 0; i < count && reader->status == POSTCARD_OK; i++) {
         value->items[i].some = false;
-        if (postcard_get_option(reader, &value->items[i].some) == POSTCARD_OK && value->items[i].some) {
+        postcard_get_option(reader, &value->items[i].some);
+        if (value->items[i].some) {
             value->items[i].value = false;
             postcard_get_bool(reader, &value->items[i].value);
         }
@@ -604,7 +608,8 @@ postcard_status forms_option_i32_put(postcard_writer *writer, const forms_option
 
 postcard_status forms_option_i32_get(postcard_reader *reader, forms_option_i32 *value) {
     value->some = false;
-    if (postcard_get_option(reader, &value->some) == POSTCARD_OK && value->some) {
+    postcard_get_option(reader, &value->some);
+    if (value->some) {
         value->value = 0;
         postcard_get_i32(reader, &value->value);
     }
@@ -648,7 +653,8 @@ postcard_status forms_list_option_i32_get(postcard_reader *reader, forms_list_op
     start = reader->at;
     for (size_t i = 0; i < count && reader->status == POSTCARD_OK; i++) {
         item.some = false;
-        if (postcard_get_option(reader, &item.some) == POSTCARD_OK && item.some) {
+        postcard_get_option(reader, &item.some);
+        if (item.some) {
             item.value = 0;
             postcard_get_i32(reader, &item.value);
         }
@@ -660,7 +666,8 @@ postcard_status forms_list_option_i32_get(postcard_reader *reader, forms_list_op
 bool forms_list_option_i32_next(postcard_reader *reader, forms_option_i32 *item) {
     if (reader->status != POSTCARD_OK || reader->at >= reader->size) return false;
     item->some = false;
-    if (postcard_get_option(reader, &item->some) == POSTCARD_OK && item->some) {
+    postcard_get_option(reader, &item->some);
+    if (item->some) {
         item->value = 0;
         postcard_get_i32(reader, &item->value);
     }
@@ -1016,7 +1023,8 @@ postcard_status forms_option_list_str_put(postcard_writer *writer, const forms_o
 
 postcard_status forms_option_list_str_get(postcard_reader *reader, forms_option_list_str *value) {
     value->some = false;
-    if (postcard_get_option(reader, &value->some) == POSTCARD_OK && value->some) {
+    postcard_get_option(reader, &value->some);
+    if (value->some) {
         forms_list_str_get(reader, &value->value);
     }
     return reader->status;
@@ -1199,7 +1207,8 @@ postcard_status Lists_get(postcard_reader *reader, Lists *value) {
     value->j.bytes = NULL, value->j.size = 0;
     postcard_get_bytes(reader, &value->j);
     value->k.some = false;
-    if (postcard_get_option(reader, &value->k.some) == POSTCARD_OK && value->k.some) {
+    postcard_get_option(reader, &value->k.some);
+    if (value->k.some) {
         forms_list_str_get(reader, &value->k.value);
     }
     forms_list_result_u8_unit_get(reader, &value->l);
@@ -1220,7 +1229,8 @@ postcard_status forms_option_Serial_put(postcard_writer *writer, const forms_opt
 
 postcard_status forms_option_Serial_get(postcard_reader *reader, forms_option_Serial *value) {
     value->some = false;
-    if (postcard_get_option(reader, &value->some) == POSTCARD_OK && value->some) {
+    postcard_get_option(reader, &value->some);
+    if (value->some) {
         Serial_get(reader, &value->value);
     }
     return reader->status;
@@ -1282,7 +1292,8 @@ postcard_status Arrays_get(postcard_reader *reader, Arrays *value) {
     }
     for (size_t i0 = 0; i0 < 2u; i0++) {
         value->c[i0].some = false;
-        if (postcard_get_option(reader, &value->c[i0].some) == POSTCARD_OK && value->c[i0].some) {
+        postcard_get_option(reader, &value->c[i0].some);
+        if (value->c[i0].some) {
             Serial_get(reader, &value->c[i0].value);
         }
     }
@@ -1344,7 +1355,8 @@ postcard_status forms_option_u8_put(postcard_writer *writer, const forms_option_
 
 postcard_status forms_option_u8_get(postcard_reader *reader, forms_option_u8 *value) {
     value->some = false;
-    if (postcard_get_option(reader, &value->some) == POSTCARD_OK && value->some) {
+    postcard_get_option(reader, &value->some);
+    if (value->some) {
         value->value = 0;
         postcard_get_u8(reader, &value->value);
     }
@@ -1368,9 +1380,11 @@ postcard_status forms_option_option_bool_put(postcard_writer *writer, const form
 
 postcard_status forms_option_option_bool_get(postcard_reader *reader, forms_option_option_bool *value) {
     value->some = false;
-    if (postcard_get_option(reader, &value->some) == POSTCARD_OK && value->some) {
+    postcard_get_option(reader, &value->some);
+    if (value->some) {
         value->value.some = false;
-        if (postcard_get_option(reader, &value->value.some) == POSTCARD_OK && value->value.some) {
+        postcard_get_option(reader, &value->value.some);
+        if (value->value.some) {
             value->value.value = false;
             postcard_get_bool(reader, &value->value.value);
         }
@@ -1405,7 +1419,8 @@ postcard_status forms_option_Unit_put(postcard_writer *writer, const forms_optio
 
 postcard_status forms_option_Unit_get(postcard_reader *reader, forms_option_Unit *value) {
     value->some = false;
-    if (postcard_get_option(reader, &value->some) == POSTCARD_OK && value->some) {
+    postcard_get_option(reader, &value->some);
+    if (value->some) {
         Unit_get(reader, &value->value);
     }
     return reader->status;
@@ -1423,7 +1438,8 @@ postcard_status forms_option_char_put(postcard_writer *writer, const forms_optio
 
 postcard_status forms_option_char_get(postcard_reader *reader, forms_option_char *value) {
     value->some = false;
-    if (postcard_get_option(reader, &value->some) == POSTCARD_OK && value->some) {
+    postcard_get_option(reader, &value->some);
+    if (value->some) {
         value->value = 0;
         postcard_get_char(reader, &value->value);
     }
@@ -1445,7 +1461,8 @@ postcard_status forms_tuple2_u8_option_char_get(postcard_reader *reader, forms_t
     value->_0 = 0;
     postcard_get_u8(reader, &value->_0);
     value->_1.some = false;
-    if (postcard_get_option(reader, &value->_1.some) == POSTCARD_OK && value->_1.some) {
+    postcard_get_option(reader, &value->_1.some);
+    if (value->_1.some) {
         value->_1.value = 0;
         postcard_get_char(reader, &value->_1.value);
     }
@@ -1470,11 +1487,13 @@ postcard_status forms_option_tuple2_u8_option_char_put(postcard_writer *writer, 
 
 postcard_status forms_option_tuple2_u8_option_char_get(postcard_reader *reader, forms_option_tuple2_u8_option_char *value) {
     value->some = false;
-    if (postcard_get_option(reader, &value->some) == POSTCARD_OK && value->some) {
+    postcard_get_option(reader, &value->some);
+    if (value->some) {
         value->value._0 = 0;
         postcard_get_u8(reader, &value->value._0);
         value->value._1.some = false;
-        if (postcard_get_option(reader, &value->value._1.some) == POSTCARD_OK && value->value._1.some) {
+        postcard_get_option(reader, &value->value._1.some);
+        if (value->value._1.some) {
             value->value._1.value = 0;
             postcard_get_char(reader, &value->value._1.value);
         }
@@ -1494,7 +1513,8 @@ postcard_status forms_option_Level_put(postcard_writer *writer, const forms_opti
 
 postcard_status forms_option_Level_get(postcard_reader *reader, forms_option_Level *value) {
     value->some = false;
-    if (postcard_get_option(reader, &value->some) == POSTCARD_OK && value->some) {
+    postcard_get_option(reader, &value->some);
+    if (value->some) {
         Level_get(reader, &value->value);
     }
     return reader->status;
@@ -1517,9 +1537,11 @@ postcard_status forms_option_option_Level_put(postcard_writer *writer, const for
 
 postcard_status forms_option_option_Level_get(postcard_reader *reader, forms_option_option_Level *value) {
     value->some = false;
-    if (postcard_get_option(reader, &value->some) == POSTCARD_OK && value->some) {
+    postcard_get_option(reader, &value->some);
+    if (value->some) {
         value->value.some = false;
-        if (postcard_get_option(reader, &value->value.some) == POSTCARD_OK && value->value.some) {
+        postcard_get_option(reader, &value->value.some);
+        if (value->value.some) {
             Level_get(reader, &value->value.value);
         }
     }
@@ -1548,11 +1570,14 @@ postcard_status forms_option_option_option_Level_put(postcard_writer *writer, co
 
 postcard_status forms_option_option_option_Level_get(postcard_reader *reader, forms_option_option_option_Level *value) {
     value->some = false;
-    if (postcard_get_option(reader, &value->some) == POSTCARD_OK && value->some) {
+    postcard_get_option(reader, &value->some);
+    if (value->some) {
         value->value.some = false;
-        if (postcard_get_option(reader, &value->value.some) == POSTCARD_OK && value->value.some) {
+        postcard_get_option(reader, &value->value.some);
+        if (value->value.some) {
             value->value.value.some = false;
-            if (postcard_get_option(reader, &value->value.value.some) == POSTCARD_OK && value->value.value.some) {
+            postcard_get_option(reader, &value->value.value.some);
+            if (value->value.value.some) {
                 Level_get(reader, &value->value.value.value);
             }
         }
@@ -1572,7 +1597,8 @@ postcard_status forms_option_array3_u8_put(postcard_writer *writer, const forms_
 
 postcard_status forms_option_array3_u8_get(postcard_reader *reader, forms_option_array3_u8 *value) {
     value->some = false;
-    if (postcard_get_option(reader, &value->some) == POSTCARD_OK && value->some) {
+    postcard_get_option(reader, &value->some);
+    if (value->some) {
         get_array_(reader, value->value, 3u);
     }
     return reader->status;
@@ -1646,14 +1672,17 @@ postcard_status Options_put(postcard_writer *writer, const Options *value) {
 
 postcard_status Options_get(postcard_reader *reader, Options *value) {
     value->a.some = false;
-    if (postcard_get_option(reader, &value->a.some) == POSTCARD_OK && value->a.some) {
+    postcard_get_option(reader, &value->a.some);
+    if (value->a.some) {
         value->a.value = 0;
         postcard_get_u8(reader, &value->a.value);
     }
     value->b.some = false;
-    if (postcard_get_option(reader, &value->b.some) == POSTCARD_OK && value->b.some) {
+    postcard_get_option(reader, &value->b.some);
+    if (value->b.some) {
         value->b.value.some = false;
-        if (postcard_get_option(reader, &value->b.value.some) == POSTCARD_OK && value->b.value.some) {
+        postcard_get_option(reader, &value->b.value.some);
+        if (value->b.value.some) {
             value->b.value.value = false;
             postcard_get_bool(reader, &value->b.value.value);
         }
@@ -1661,31 +1690,38 @@ postcard_status Options_get(postcard_reader *reader, Options *value) {
     value->c.some = false;
     postcard_get_option(reader, &value->c.some);
     value->d.some = false;
-    if (postcard_get_option(reader, &value->d.some) == POSTCARD_OK && value->d.some) {
+    postcard_get_option(reader, &value->d.some);
+    if (value->d.some) {
         Unit_get(reader, &value->d.value);
     }
     value->e.some = false;
-    if (postcard_get_option(reader, &value->e.some) == POSTCARD_OK && value->e.some) {
+    postcard_get_option(reader, &value->e.some);
+    if (value->e.some) {
         value->e.value._0 = 0;
         postcard_get_u8(reader, &value->e.value._0);
         value->e.value._1.some = false;
-        if (postcard_get_option(reader, &value->e.value._1.some) == POSTCARD_OK && value->e.value._1.some) {
+        postcard_get_option(reader, &value->e.value._1.some);
+        if (value->e.value._1.some) {
             value->e.value._1.value = 0;
             postcard_get_char(reader, &value->e.value._1.value);
         }
     }
     value->f.some = false;
-    if (postcard_get_option(reader, &value->f.some) == POSTCARD_OK && value->f.some) {
+    postcard_get_option(reader, &value->f.some);
+    if (value->f.some) {
         value->f.value.some = false;
-        if (postcard_get_option(reader, &value->f.value.some) == POSTCARD_OK && value->f.value.some) {
+        postcard_get_option(reader, &value->f.value.some);
+        if (value->f.value.some) {
             value->f.value.value.some = false;
-            if (postcard_get_option(reader, &value->f.value.value.some) == POSTCARD_OK && value->f.value.value.some) {
+            postcard_get_option(reader, &value->f.value.value.some);
+            if (value->f.value.value.some) {
                 Level_get(reader, &value->f.value.value.value);
             }
         }
     }
     value->g.some = false;
-    if (postcard_get_option(reader, &value->g.some) == POSTCARD_OK && value->g.some) {
+    postcard_get_option(reader, &value->g.some);
+    if (value->g.some) {
         get_array_(reader, value->g.value, 3u);
     }
     return reader->status;
@@ -1839,7 +1875,8 @@ postcard_status forms_result_result_u8_i8_option_u8_get(postcard_reader *reader,
     }
     if (!value->is_ok) {
         value->as.err.some = false;
-        if (postcard_get_option(reader, &value->as.err.some) == POSTCARD_OK && value->as.err.some) {
+        postcard_get_option(reader, &value->as.err.some);
+        if (value->as.err.some) {
             value->as.err.value = 0;
             postcard_get_u8(reader, &value->as.err.value);
         }
@@ -1969,12 +2006,14 @@ postcard_status Holder_option_u8_put(postcard_writer *writer, const Holder_optio
 
 postcard_status Holder_option_u8_get(postcard_reader *reader, Holder_option_u8 *value) {
     value->old.some = false;
-    if (postcard_get_option(reader, &value->old.some) == POSTCARD_OK && value->old.some) {
+    postcard_get_option(reader, &value->old.some);
+    if (value->old.some) {
         value->old.value = 0;
         postcard_get_u8(reader, &value->old.value);
     }
     value->new_.some = false;
-    if (postcard_get_option(reader, &value->new_.some) == POSTCARD_OK && value->new_.some) {
+    postcard_get_option(reader, &value->new_.some);
+    if (value->new_.some) {
         value->new_.value = 0;
         postcard_get_u8(reader, &value->new_.value);
     }
@@ -2955,7 +2994,8 @@ postcard_status forms_option_State_put(postcard_writer *writer, const forms_opti
 
 postcard_status forms_option_State_get(postcard_reader *reader, forms_option_State *value) {
     value->some = false;
-    if (postcard_get_option(reader, &value->some) == POSTCARD_OK && value->some) {
+    postcard_get_option(reader, &value->some);
+    if (value->some) {
         State_get(reader, &value->value);
     }
     return reader->status;
@@ -3105,7 +3145,8 @@ postcard_status Expressions_put(postcard_writer *writer, const Expressions *valu
 
 postcard_status Expressions_get(postcard_reader *reader, Expressions *value) {
     value->a.some = false;
-    if (postcard_get_option(reader, &value->a.some) == POSTCARD_OK && value->a.some) {
+    postcard_get_option(reader, &value->a.some);
+    if (value->a.some) {
         State_get(reader, &value->a.value);
     }
     forms_list_i16_get(reader, &value->b);

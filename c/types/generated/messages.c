@@ -69,7 +69,8 @@ postcard_status messages_option_u16_put(postcard_writer *writer, const messages_
 
 postcard_status messages_option_u16_get(postcard_reader *reader, messages_option_u16 *value) {
     value->some = false;
-    if (postcard_get_option(reader, &value->some) == POSTCARD_OK && value->some) {
+    postcard_get_option(reader, &value->some);
+    if (value->some) {
         value->value = 0;
         postcard_get_u16(reader, &value->value);
     }
@@ -104,7 +105,8 @@ postcard_status Motor_get(postcard_reader *reader, Motor *value) {
         postcard_get_i8(reader, &value->temps[i0]);
     }
     value->fault.some = false;
-    if (postcard_get_option(reader, &value->fault.some) == POSTCARD_OK && value->fault.some) {
+    postcard_get_option(reader, &value->fault.some);
+    if (value->fault.some) {
         value->fault.value = 0;
         postcard_get_u16(reader, &value->fault.value);
     }
@@ -195,7 +197,8 @@ postcard_status messages_option_tuple4_u8_u8_u8_u8_put(postcard_writer *writer, 
 
 postcard_status messages_option_tuple4_u8_u8_u8_u8_get(postcard_reader *reader, messages_option_tuple4_u8_u8_u8_u8 *value) {
     value->some = false;
-    if (postcard_get_option(reader, &value->some) == POSTCARD_OK && value->some) {
+    postcard_get_option(reader, &value->some);
+    if (value->some) {
         value->value._0 = 0;
         postcard_get_u8(reader, &value->value._0);
         value->value._1 = 0;
@@ -235,7 +238,8 @@ postcard_status Settings_get(postcard_reader *reader, Settings *value) {
     value->retries = 0;
     postcard_get_u8(reader, &value->retries);
     value->address.some = false;
-    if (postcard_get_option(reader, &value->address.some) == POSTCARD_OK && value->address.some) {
+    postcard_get_option(reader, &value->address.some);
+    if (value->address.some) {
         value->address.value._0 = 0;
         postcard_get_u8(reader, &value->address.value._0);
         value->address.value._1 = 0;
@@ -487,7 +491,8 @@ postcard_status messages_option_i8_put(postcard_writer *writer, const messages_o
 
 postcard_status messages_option_i8_get(postcard_reader *reader, messages_option_i8 *value) {
     value->some = false;
-    if (postcard_get_option(reader, &value->some) == POSTCARD_OK && value->some) {
+    postcard_get_option(reader, &value->some);
+    if (value->some) {
         value->value = 0;
         postcard_get_i8(reader, &value->value);
     }
@@ -519,7 +524,8 @@ postcard_status Battery_get(postcard_reader *reader, Battery *value) {
     value->charging = false;
     postcard_get_bool(reader, &value->charging);
     value->temp.some = false;
-    if (postcard_get_option(reader, &value->temp.some) == POSTCARD_OK && value->temp.some) {
+    postcard_get_option(reader, &value->temp.some);
+    if (value->temp.some) {
         value->temp.value = 0;
         postcard_get_i8(reader, &value->temp.value);
     }
@@ -770,7 +776,8 @@ postcard_status messages_option_u8_put(postcard_writer *writer, const messages_o
 
 postcard_status messages_option_u8_get(postcard_reader *reader, messages_option_u8 *value) {
     value->some = false;
-    if (postcard_get_option(reader, &value->some) == POSTCARD_OK && value->some) {
+    postcard_get_option(reader, &value->some);
+    if (value->some) {
         value->value = 0;
         postcard_get_u8(reader, &value->value);
     }
@@ -794,9 +801,11 @@ postcard_status messages_option_option_u8_put(postcard_writer *writer, const mes
 
 postcard_status messages_option_option_u8_get(postcard_reader *reader, messages_option_option_u8 *value) {
     value->some = false;
-    if (postcard_get_option(reader, &value->some) == POSTCARD_OK && value->some) {
+    postcard_get_option(reader, &value->some);
+    if (value->some) {
         value->value.some = false;
-        if (postcard_get_option(reader, &value->value.some) == POSTCARD_OK && value->value.some) {
+        postcard_get_option(reader, &value->value.some);
+        if (value->value.some) {
             value->value.value = 0;
             postcard_get_u8(reader, &value->value.value);
         }
@@ -816,7 +825,8 @@ postcard_status messages_option_str_put(postcard_writer *writer, const messages_
 
 postcard_status messages_option_str_get(postcard_reader *reader, messages_option_str *value) {
     value->some = false;
-    if (postcard_get_option(reader, &value->some) == POSTCARD_OK && value->some) {
+    postcard_get_option(reader, &value->some);
+    if (value->some) {
         value->value.bytes = NULL, value->value.size = 0;
         postcard_get_str(reader, &value->value);
     }
@@ -835,7 +845,8 @@ postcard_status messages_option_bool_put(postcard_writer *writer, const messages
 
 postcard_status messages_option_bool_get(postcard_reader *reader, messages_option_bool *value) {
     value->some = false;
-    if (postcard_get_option(reader, &value->some) == POSTCARD_OK && value->some) {
+    postcard_get_option(reader, &value->some);
+    if (value->some) {
         value->value = false;
         postcard_get_bool(reader, &value->value);
     }
@@ -871,20 +882,24 @@ postcard_status Patch_put(postcard_writer *writer, const Patch *value) {
 
 postcard_status Patch_get(postcard_reader *reader, Patch *value) {
     value->volume.some = false;
-    if (postcard_get_option(reader, &value->volume.some) == POSTCARD_OK && value->volume.some) {
+    postcard_get_option(reader, &value->volume.some);
+    if (value->volume.some) {
         value->volume.value.some = false;
-        if (postcard_get_option(reader, &value->volume.value.some) == POSTCARD_OK && value->volume.value.some) {
+        postcard_get_option(reader, &value->volume.value.some);
+        if (value->volume.value.some) {
             value->volume.value.value = 0;
             postcard_get_u8(reader, &value->volume.value.value);
         }
     }
     value->title.some = false;
-    if (postcard_get_option(reader, &value->title.some) == POSTCARD_OK && value->title.some) {
+    postcard_get_option(reader, &value->title.some);
+    if (value->title.some) {
         value->title.value.bytes = NULL, value->title.value.size = 0;
         postcard_get_str(reader, &value->title.value);
     }
     value->night.some = false;
-    if (postcard_get_option(reader, &value->night.some) == POSTCARD_OK && value->night.some) {
+    postcard_get_option(reader, &value->night.some);
+    if (value->night.some) {
         value->night.value = false;
         postcard_get_bool(reader, &value->night.value);
     }
@@ -1015,7 +1030,8 @@ postcard_status Crash_get(postcard_reader *reader, Crash *value) {
         postcard_get_u32(reader, &value->registers[i0]);
     }
     value->message.some = false;
-    if (postcard_get_option(reader, &value->message.some) == POSTCARD_OK && value->message.some) {
+    postcard_get_option(reader, &value->message.some);
+    if (value->message.some) {
         value->message.value.bytes = NULL, value->message.value.size = 0;
         postcard_get_str(reader, &value->message.value);
     }
@@ -1263,7 +1279,8 @@ postcard_status Advertisement_get(postcard_reader *reader, Advertisement *value)
     value->rssi = 0;
     postcard_get_i8(reader, &value->rssi);
     value->name.some = false;
-    if (postcard_get_option(reader, &value->name.some) == POSTCARD_OK && value->name.some) {
+    postcard_get_option(reader, &value->name.some);
+    if (value->name.some) {
         value->name.value.bytes = NULL, value->name.value.size = 0;
         postcard_get_str(reader, &value->name.value);
     }

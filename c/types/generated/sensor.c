@@ -68,7 +68,8 @@ postcard_status sensor_option_u8_put(postcard_writer *writer, const sensor_optio
 
 postcard_status sensor_option_u8_get(postcard_reader *reader, sensor_option_u8 *value) {
     value->some = false;
-    if (postcard_get_option(reader, &value->some) == POSTCARD_OK && value->some) {
+    postcard_get_option(reader, &value->some);
+    if (value->some) {
         value->value = 0;
         postcard_get_u8(reader, &value->value);
     }
@@ -94,7 +95,8 @@ postcard_status Record_get(postcard_reader *reader, Record *value) {
     value->short_ = 0;
     postcard_get_u16(reader, &value->short_);
     value->byte.some = false;
-    if (postcard_get_option(reader, &value->byte.some) == POSTCARD_OK && value->byte.some) {
+    postcard_get_option(reader, &value->byte.some);
+    if (value->byte.some) {
         value->byte.value = 0;
         postcard_get_u8(reader, &value->byte.value);
     }
@@ -378,7 +380,8 @@ postcard_status sensor_option_tuple2_i32_i32_put(postcard_writer *writer, const 
 
 postcard_status sensor_option_tuple2_i32_i32_get(postcard_reader *reader, sensor_option_tuple2_i32_i32 *value) {
     value->some = false;
-    if (postcard_get_option(reader, &value->some) == POSTCARD_OK && value->some) {
+    postcard_get_option(reader, &value->some);
+    if (value->some) {
         value->value._0 = 0;
         postcard_get_i32(reader, &value->value._0);
         value->value._1 = 0;
@@ -404,7 +407,8 @@ postcard_status Setting_get(postcard_reader *reader, Setting *value) {
     value->value = 0;
     postcard_get_i32(reader, &value->value);
     value->limits.some = false;
-    if (postcard_get_option(reader, &value->limits.some) == POSTCARD_OK && value->limits.some) {
+    postcard_get_option(reader, &value->limits.some);
+    if (value->limits.some) {
         value->limits.value._0 = 0;
         postcard_get_i32(reader, &value->limits.value._0);
         value->limits.value._1 = 0;
@@ -464,7 +468,8 @@ postcard_status sensor_option_u16_put(postcard_writer *writer, const sensor_opti
 
 postcard_status sensor_option_u16_get(postcard_reader *reader, sensor_option_u16 *value) {
     value->some = false;
-    if (postcard_get_option(reader, &value->some) == POSTCARD_OK && value->some) {
+    postcard_get_option(reader, &value->some);
+    if (value->some) {
         value->value = 0;
         postcard_get_u16(reader, &value->value);
     }
@@ -488,9 +493,11 @@ postcard_status sensor_option_option_u16_put(postcard_writer *writer, const sens
 
 postcard_status sensor_option_option_u16_get(postcard_reader *reader, sensor_option_option_u16 *value) {
     value->some = false;
-    if (postcard_get_option(reader, &value->some) == POSTCARD_OK && value->some) {
+    postcard_get_option(reader, &value->some);
+    if (value->some) {
         value->value.some = false;
-        if (postcard_get_option(reader, &value->value.some) == POSTCARD_OK && value->value.some) {
+        postcard_get_option(reader, &value->value.some);
+        if (value->value.some) {
             value->value.value = 0;
             postcard_get_u16(reader, &value->value.value);
         }
@@ -517,9 +524,11 @@ postcard_status Settings_put(postcard_writer *writer, const Settings *value) {
 postcard_status Settings_get(postcard_reader *reader, Settings *value) {
     sensor_map8_u8_Setting_get(reader, &value->values);
     value->old.some = false;
-    if (postcard_get_option(reader, &value->old.some) == POSTCARD_OK && value->old.some) {
+    postcard_get_option(reader, &value->old.some);
+    if (value->old.some) {
         value->old.value.some = false;
-        if (postcard_get_option(reader, &value->old.value.some) == POSTCARD_OK && value->old.value.some) {
+        postcard_get_option(reader, &value->old.value.some);
+        if (value->old.value.some) {
             value->old.value.value = 0;
             postcard_get_u16(reader, &value->old.value.value);
         }
@@ -539,7 +548,8 @@ postcard_status sensor_option_u32_put(postcard_writer *writer, const sensor_opti
 
 postcard_status sensor_option_u32_get(postcard_reader *reader, sensor_option_u32 *value) {
     value->some = false;
-    if (postcard_get_option(reader, &value->some) == POSTCARD_OK && value->some) {
+    postcard_get_option(reader, &value->some);
+    if (value->some) {
         value->value = 0;
         postcard_get_u32(reader, &value->value);
     }
@@ -617,7 +627,8 @@ postcard_status sensor_result_option_u32_Fault_get(postcard_reader *reader, sens
     value->is_ok = index == 0;
     if (value->is_ok) {
         value->as.ok.some = false;
-        if (postcard_get_option(reader, &value->as.ok.some) == POSTCARD_OK && value->as.ok.some) {
+        postcard_get_option(reader, &value->as.ok.some);
+        if (value->as.ok.some) {
             value->as.ok.value = 0;
             postcard_get_u32(reader, &value->as.ok.value);
         }
