@@ -3,7 +3,9 @@ import os
 import sys
 
 if __package__ in (None, ""):
-    sys.path[0] = os.path.dirname(os.path.dirname(os.path.abspath(__file__)))
+    # At the end, so that no file beside this folder hides a module of Python.
+    sys.path[:1] = []
+    sys.path.append(os.path.dirname(os.path.dirname(os.path.abspath(__file__))))
 
 from postcard_types.command import main  # noqa: E402
 

@@ -4,7 +4,7 @@ A *place* is an expression of C for a value: `value->field`, or `*value` for wha
 does nothing, so a body tests the status only where it would loop. Reading gives each count and flag a value before it can fail, so a
 struct that was read in part may be walked.
 """
-from .c_names import member, size_type, snake
+from .c_names import size_type
 from .c_types import is_lent, is_newtype
 from .model import BYTE, Array, Bytes, List_, Named, Number, Option, Result, Scalar, Text, Tuple_
 
@@ -145,7 +145,7 @@ class Functions:
             return self.put_enum(kind, self.model.definitions[kind])
         if isinstance(kind, Named):
             members = self.model.definitions[kind].members
-            lines = [line for each in members for line in self.put(each.kind, f"value->{member(each.name)}")]
+            lines = [line for each in members for line in self.put(each.kind, f"value->{self.types.names.member(each.name)}")]
         else:
             lines = self.put(kind, "*value")
         return lines or ["(void)value;"]
@@ -177,10 +177,10 @@ class Functions:
         """Returns a switch over the variants, in which `inner` gives the lines of each part."""
         lines = ["switch (value->tag) {"]
         for case in definition.cases:
-            content = f"value->as.{snake(case.name)}"
+            content = f"value->as.{self.types.names.content(case.name)}"
             lines.append(f"    case {self.name(kind)}_{case.name}:")
             for each in case.members:
-                place = content if is_newtype(case) else f"{content}.{member(each.name)}"
+                place = content if is_newtype(case) else f"{content}.{self.types.names.member(each.name)}"
                 lines += indented(indented(inner(each.kind, place)))
             lines.append("        break;")
         return [*lines, "}"]
@@ -247,7 +247,7 @@ class Functions:
             return lines + self.switch(kind, definition, self.get)
         if isinstance(kind, Named):
             members = self.model.definitions[kind].members
-            lines = [line for each in members for line in self.get(each.kind, f"value->{member(each.name)}")]
+            lines = [line for each in members for line in self.get(each.kind, f"value->{self.types.names.member(each.name)}")]
         else:
             lines = self.get(kind, "*value")
         return lines or ["value->nothing_ = 0;"]

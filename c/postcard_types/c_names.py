@@ -20,18 +20,6 @@ RESERVED = frozenset(
 LOCALS = frozenset("writer reader value message frame size count used status index start item most text bytes again".split())
 
 
-def member(name):
-    """Returns the name of a field or of a part of a tuple."""
-    if name[0].isdigit():
-        return f"_{name}"
-    return f"{name}_" if name in RESERVED else name
-
-
-def snake(name):
-    """Returns the name of a variant's content in the union of its enum."""
-    return member(re.sub(r"(?<=[a-z0-9])(?=[A-Z])|(?<=[A-Z])(?=[A-Z][a-z])", "_", name).lower())
-
-
 def size_type(most):
     """Returns the type of a count of at most so many."""
     return "uint8_t" if most < 2**8 else "uint16_t" if most < 2**16 else "uint32_t"
@@ -42,6 +30,7 @@ class Names:
 
     def __init__(self, model, prefix, stem):
         self.model, self.prefix, self.stem, self.taken = model, prefix, stem, {}
+        self.declared = {self.top(name) for name in (*(kind.name for kind in model.definitions), *(alias[0] for alias in model.aliases))}
 
     def take(self, name, place):
         """Refuses a name at file scope that a second declaration would have."""
@@ -50,6 +39,16 @@ class Names:
         if name.startswith("postcard_"):
             raise Refused(place, f"the C name `{name}` is one of the library: give a --prefix")
         self.taken[name] = place
+
+    def member(self, name):
+        """Returns the name of a field or of a part of a tuple. In C++ a type's name can't be that of a member too."""
+        if name[0].isdigit():
+            return f"_{name}"
+        return f"{name}_" if name in RESERVED or name in self.declared else name
+
+    def content(self, name):
+        """Returns the name of a variant's content in the union of its enum, in snake case."""
+        return self.member(re.sub(r"(?<=[a-z0-9])(?=[A-Z])|(?<=[A-Z])(?=[A-Z][a-z])", "_", name).lower())
 
     def of(self, kind):
         """Returns the C name of a type that has its own: a struct, an enum, or another type that is declared as a `struct`."""

@@ -1,5 +1,5 @@
 """The declarations of types in C."""
-from .c_names import member, size_type, snake
+from .c_names import size_type
 from .model import Array, Bytes, List_, Named, Number, Option, Result, Scalar, Text, Tuple_
 from .tokens import Refused
 
@@ -65,14 +65,14 @@ class Types:
 
     def members(self, members, indent):
         """Returns the lines of the members of a struct. C has no struct without members, so one without bytes has a byte."""
-        self.distinct([(member(each.name), each.place) for each in members])
+        self.distinct([(self.names.member(each.name), each.place) for each in members])
         lines = []
         for each in members:
             lines += comment(each.docs, indent)
             if self.is_empty(each.kind):
-                lines.append(f"{indent}/* {member(each.name)} has no bytes */")
+                lines.append(f"{indent}/* {self.names.member(each.name)} has no bytes */")
             else:
-                lines.append(f"{indent}{self.declared(each.kind, member(each.name))};")
+                lines.append(f"{indent}{self.declared(each.kind, self.names.member(each.name))};")
         if all(self.is_empty(each.kind) for each in members):
             lines.append(f"{indent}uint8_t nothing_;")
         return lines
@@ -128,7 +128,7 @@ class Types:
             return lines
         self.names.take(tag, definition.place)
         filled = [case for case in definition.cases if any(not self.is_empty(each.kind) for each in case.members)]
-        self.distinct([(snake(case.name), case.place) for case in filled])
+        self.distinct([(self.names.content(case.name), case.place) for case in filled])
         union = [line for case in filled for line in self.case(case)]
         lines += [f"typedef struct {name} {{", f"    {tag} tag;", *(["    union {", *union, "    } as;"] if union else [])]
         return lines + [f"}} {name};"]
@@ -136,8 +136,8 @@ class Types:
     def case(self, case):
         """Returns the lines of a variant's content in the union: its only part, or a struct."""
         if is_newtype(case):
-            return [f"        {self.declared(case.members[0].kind, snake(case.name))};"]
-        return ["        struct {", *self.members(case.members, "            "), f"        }} {snake(case.name)};"]
+            return [f"        {self.declared(case.members[0].kind, self.names.content(case.name))};"]
+        return ["        struct {", *self.members(case.members, "            "), f"        }} {self.names.content(case.name)};"]
 
 
 def is_newtype(case):

@@ -31,7 +31,7 @@ def member(name):
 
 def variant(name):
     """Returns the name of a variant's class in the class of its enum, or of a member of an `IntEnum`."""
-    return f"{name}_" if keyword.iskeyword(name) or name == "Message" else name
+    return f"{name}_" if keyword.iskeyword(name) else name
 
 
 class Names:

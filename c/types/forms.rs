@@ -196,3 +196,5 @@ pub struct Words {
 pub struct writer(pub u8);
 pub enum Error { None, True, Default(u8) }
 pub struct Option_ { pub self_: u8 }
+/// Fields with the names of types.
+pub struct Shadows { pub Serial: Serial, pub writer: u8, pub Level: Option<Level> }

@@ -4,7 +4,7 @@ import re
 from oracle import bits
 
 # Names of the files of declarations here that are words of C or names of the generated code.
-WORDS = set("auto bool case char class default double errno float for if int long max min new register short unix".split())
+WORDS = set("Level Serial auto bool case char class default double errno float for if int long max min new register short unix".split())
 TYPES = {"writer": "writer_"}
 PLAIN = {"bool": "bool", "char": "uint32_t", "f32": "float", "f64": "double"}
 

@@ -3263,3 +3263,27 @@ postcard_status Option__get(postcard_reader *reader, Option_ *value) {
     postcard_get_u8(reader, &value->self_);
     return reader->status;
 }
+
+postcard_status Shadows_put(postcard_writer *writer, const Shadows *value) {
+    Serial_put(writer, &value->Serial_);
+    postcard_put_u8(writer, value->writer);
+    if (value->Level_.some) {
+        postcard_put_some(writer);
+        Level_put(writer, &value->Level_.value);
+    } else {
+        postcard_put_none(writer);
+    }
+    return writer->status;
+}
+
+postcard_status Shadows_get(postcard_reader *reader, Shadows *value) {
+    Serial_get(reader, &value->Serial_);
+    value->writer = 0;
+    postcard_get_u8(reader, &value->writer);
+    value->Level_.some = false;
+    postcard_get_option(reader, &value->Level_.some);
+    if (value->Level_.some) {
+        Level_get(reader, &value->Level_.value);
+    }
+    return reader->status;
+}

@@ -1598,6 +1598,34 @@ static inline postcard_status Option__frame(const Option_ *value, uint8_t *frame
     return status == POSTCARD_OK ? postcard_cobs_encode(message, used, frame, size, count) : status;
 }
 
+/* Fields with the names of types. */
+typedef struct Shadows {
+    Serial Serial_;
+    uint8_t writer;
+    forms_option_Level Level_;
+} Shadows;
+postcard_status Shadows_put(postcard_writer *writer, const Shadows *value);
+postcard_status Shadows_get(postcard_reader *reader, Shadows *value);
+#define Shadows_MAX_SIZE 13u
+static inline postcard_status Shadows_encode(const Shadows *value, void *message, size_t size, size_t *count) {
+    postcard_writer writer = postcard_writer_over(message, size);
+    Shadows_put(&writer, value);
+    *count = writer.needed;
+    return writer.status;
+}
+static inline postcard_status Shadows_decode(Shadows *value, const void *message, size_t size) {
+    postcard_reader reader = postcard_reader_over(message, size);
+    if (Shadows_get(&reader, value) == POSTCARD_OK && reader.at != reader.size) reader.status = POSTCARD_NO_VALUE;
+    return reader.status;
+}
+#define Shadows_FRAME_SIZE POSTCARD_FRAME_SIZE(Shadows_MAX_SIZE)
+static inline postcard_status Shadows_frame(const Shadows *value, uint8_t *frame, size_t size, size_t *count) {
+    uint8_t message[13];
+    size_t used = 0;
+    postcard_status status = Shadows_encode(value, message, sizeof message, &used);
+    return status == POSTCARD_OK ? postcard_cobs_encode(message, used, frame, size, count) : status;
+}
+
 /* Aliases. */
 typedef int32_t Millimetres;
 typedef Shape Same;

@@ -1921,6 +1921,18 @@ class Option_(_p.Message):
 Option_._codec = _c.record(Option_, ['self_'], _n.unsigned(8))
 
 
+@_dataclass
+class Shadows(_p.Message):
+    """Fields with the names of types."""
+    __slots__ = ("Serial", "writer", "Level",)
+    Serial: Serial
+    writer: int
+    Level: _t.Optional[Level]
+
+
+Shadows._codec = _c.record(Shadows, ['Serial', 'writer', 'Level'], Serial._codec, _n.unsigned(8), _c.option(Level._codec, False))
+
+
 # Aliases.
 Millimetres = int
 

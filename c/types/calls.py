@@ -1,5 +1,6 @@
-"""refused.py: requires that calls of postcard_types are refused with their line on standard error, status 2, and no file; and that the
-calls that aren't leave the files that they name."""
+"""calls.py: requires that calls of postcard_types are refused with their line on standard error, status 2, and no file; and that others
+leave their files, with what their options say.
+"""
 import os
 import subprocess
 import sys
@@ -85,6 +86,19 @@ NAMES = [
     ("python", "types.rs", "a module `types` would hide one that Python needs: rename the file"),
     ("python", "class.rs", "a module `class` would hide one that Python needs: rename the file"),
 ]
+# Words of a call, a file, the files that are left, and words that the first of them has and that it hasn't.
+LEFT = [
+    (["c", "{}"], "struct A; struct B(A);", ["a.c", "a.h"], ["A_put", "B_put"], ["app_"]),
+    (["c", "{}", "--out", "b/c"], "struct A;", ["b/c/a.h", "b/c/a.c"], ["#ifndef A_H"], []),
+    (["c", "{}", "--only", "B,C"], "struct A; struct B(D); struct C; struct D;", ["a.h", "a.c"], ["B_put", "C_put", "D_put"], ["A_put"]),
+    (["c", "--prefix", "app_", "{}"], "struct A(Vec<u16>);", ["a.h", "a.c"], ["app_A_put", "app_a_list_u16_next", "#ifndef APP_A_H"], [" A_put"]),
+    (["c", "{}", "--capacity", "A.b=4", "--capacity", "B.C.0=2,3"], "struct A { b: String } enum B { C(Vec<String>) }", ["a.h", "a.c"],
+     ["uint8_t size; char text[5];", "A_MAX_SIZE 5u", "uint8_t count; a_str3 items[2];", "B_MAX_SIZE 10u"], ["postcard_slice b;"]),
+    (["c", "{}"], "struct A<T>(T); struct B<T>(T); struct C(B<u8>);", ["a.h", "a.c"], ["A has parameters", "B_u8_put"], ["B has parameters"]),
+    (["c", "{}"], "/// One.\n/// Two */.\npub struct A { /** Three */ pub b: u8 }", ["a.h", "a.c"], ["/* One. */", "/* Two * /. */", "/* Three */"], []),
+    (["python", "{}"], "/// One.\nstruct A { b: u8 }", ["a.py", "postcard_runtime/__init__.py"], ["class A(_p.Message):", '"""One."""'], []),
+    (["python", "--out", "b", "{}"], "enum A { B, C } type D = A; type E = u8;", ["b/a.py"], ["_enum.IntEnum", "D = A", "E = int"], ["_dataclass\nclass"]),
+]
 
 
 def call(folder, words):
@@ -103,8 +117,31 @@ def tried(words, name, text, wanted):
     return [] if found == must else [f"{words} {text!r}\n    is {found}\n    not {must}"]
 
 
+def left(words, text, files, has, has_not):
+    """Returns what a call doesn't leave, or leaves and must not. A second call must leave the files with their times."""
+    with tempfile.TemporaryDirectory() as folder:
+        with open(os.path.join(folder, "a.rs"), "w", encoding="utf-8") as it:
+            it.write(text)
+        found = call(folder, ["a.rs" if word == "{}" else word for word in words])[:3]
+        paths = [os.path.join(folder, file) for file in files]
+        if found != (0, "", "") or not all(map(os.path.exists, paths)):
+            return [f"{words} {text!r}: {found}"]
+        for path in paths:
+            os.utime(path, (1, 1))
+        call(folder, ["a.rs" if word == "{}" else word for word in words])
+        content = ""
+        for path in paths[:1] if words[0] == "python" else [path for path in paths if path.endswith(".h")]:
+            with open(path, encoding="utf-8") as it:
+                content += it.read()
+        wrong = [f"{words} {text!r}: no {each}" for each in has if each not in content]
+        wrong += [f"{words} {text!r}: {each}" for each in has_not if each in content]
+        return wrong + [f"{words}: {path} is written again" for path in paths if os.stat(path).st_mtime != 1]
+
+
 def main():
-    wrong, count = [], 0
+    wrong = []
+    for row in LEFT:
+        wrong += left(*row)
     for text, wanted in FILES:
         for command in ("c", "python"):
             wrong += tried([command, "{}"], "a.rs", text, f"{{}}: {wanted}")
@@ -116,10 +153,10 @@ def main():
     wrong += tried(["c", "{}"], "a.rs", b"struct A;\xff", "{}: the file is not UTF-8")
     wrong += tried(["c", "{}"], "a.rs", " " * 1_048_577, "{}: the file has more than 1048576 bytes")
     wrong += tried(["c", "{}", "--out", "a.rs"], "a.rs", "struct A;", "a.rs: the files can't be written: File exists")
-    count = 2 * len(FILES) + len(CALLS) + len(NAMES) + 4
+    count = 2 * len(FILES) + len(CALLS) + len(NAMES) + len(LEFT) + 4
     for line in wrong:
         print(line)
-    print(f"refusals: {count} calls, {len(wrong)} differ")
+    print(f"calls: {count}, {len(wrong)} differ")
     return 1 if wrong else 0
 
 
