@@ -34,7 +34,8 @@ enum {
     POSTCARD_BAD_OPTION = 9,     /* the first byte of an option is neither 0 nor 1 */
     POSTCARD_BAD_FRAME = 11,     /* not a COBS frame */
     POSTCARD_BAD_CRC = 12,       /* the bytes after a message are not its checksum */
-    POSTCARD_NO_VALUE = 14,      /* only from postcard_text.h: the bytes spell no value of the type */
+    POSTCARD_BAD_VALUE = 13,     /* only from generated code: a value of C is none of its type */
+    POSTCARD_NO_VALUE = 14,      /* only from generated code and postcard_text.h: the bytes encode no value of the type */
     POSTCARD_OUT_OF_MEMORY = 16, /* only from postcard_text.h */
     POSTCARD_BAD_TYPE = 17,      /* only from postcard_text.h: not a type expression */
     POSTCARD_BAD_TEXT = 18       /* only from postcard_text.h: not a value of the type */
@@ -45,6 +46,17 @@ typedef struct postcard_slice {
     const uint8_t *bytes;
     size_t size;
 } postcard_slice;
+
+/* The text before a NUL, to be written by generated code. */
+static inline postcard_slice postcard_text(const char *text) {
+    postcard_slice s = {(const uint8_t *)text, strlen(text)};
+    return s;
+}
+
+/* A number of 128 bits in generated code, or the two's complement of a signed one. */
+typedef struct postcard_u128 {
+    uint64_t low, high;
+} postcard_u128;
 
 /* Writing. The message so far is buffer[0] to buffer[used - 1]. `needed` is the number of bytes that the whole message
  * needs: it goes on counting where there is no room, so a writer over NULL and 0 measures. To write another message, set
