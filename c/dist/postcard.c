@@ -5,8 +5,8 @@
  *   toolchain rattle-kit-13b logic dac8208d650f15bf
  *   MIR       sha256 4b4500f67114dfa0c646016d0ef1211816b5de2eb6d9fce3808bf76fec542bee
  *
- * Each function between `pc_` helpers and exports is one function of the MIR, which is proved against its contract. No proof
- * covers the translator, the helpers of the first part, the exports' bodies at the end, nor the C compiler: these are tested.
+ * The functions named after their paths in Rattle are each one function of the MIR, which is proved against its contract. No proof
+ * covers tools/c-source, the helpers, the bodies of the exports at the end, nor your C compiler: these are tested.
  *
  * SPDX-License-Identifier: MIT OR Apache-2.0 */
 
@@ -16,43 +16,15 @@
 #include <stdint.h>
 #include <string.h>
 
+/* A struct is copied whole, also where it holds one variant of several and the members of the others have no value. */
+#if defined(__GNUC__) && !defined(__clang__)
+#pragma GCC diagnostic push
+#pragma GCC diagnostic ignored "-Wmaybe-uninitialized"
+#endif
+
 /* ---- Helpers ---- */
 
-/* Numbers of 128 bits: the compiler's own where it has them, and else two halves. */
-#if defined(__SIZEOF_INT128__) && !defined(POSTCARD_NO_INT128)
-
-__extension__ typedef unsigned __int128 pc_u128;
-
-static inline pc_u128 pc_u128_of(uint64_t low, uint64_t high) { return (pc_u128)high << 64 | low; }
-
-static inline uint64_t pc_u128_low(pc_u128 a) { return (uint64_t)a; }
-
-static inline uint64_t pc_u128_high(pc_u128 a) { return (uint64_t)(a >> 64); }
-
-static inline pc_u128 pc_u128_add(pc_u128 a, pc_u128 b) { return a + b; }
-
-static inline pc_u128 pc_u128_sub(pc_u128 a, pc_u128 b) { return a - b; }
-
-static inline pc_u128 pc_u128_mul(pc_u128 a, pc_u128 b) { return a * b; }
-
-static inline pc_u128 pc_u128_div(pc_u128 a, pc_u128 b) { return a / b; }
-
-static inline pc_u128 pc_u128_rem(pc_u128 a, pc_u128 b) { return a % b; }
-
-static inline pc_u128 pc_u128_and(pc_u128 a, pc_u128 b) { return a & b; }
-
-static inline pc_u128 pc_u128_xor(pc_u128 a, pc_u128 b) { return a ^ b; }
-
-static inline pc_u128 pc_u128_not(pc_u128 a) { return ~a; }
-
-static inline pc_u128 pc_u128_shl(pc_u128 a, unsigned n) { return a << n; }
-
-static inline pc_u128 pc_u128_shr(pc_u128 a, unsigned n) { return a >> n; }
-
-static inline bool pc_u128_lt(pc_u128 a, pc_u128 b) { return a < b; }
-
-#else
-
+/* Numbers of 128 bits, in two halves: compilers make better code of these than of their own such numbers. */
 typedef struct pc_u128 {
     uint64_t low;
     uint64_t high;
@@ -66,8 +38,6 @@ static inline pc_u128 pc_u128_of(uint64_t low, uint64_t high) {
 }
 
 static inline uint64_t pc_u128_low(pc_u128 a) { return a.low; }
-
-static inline uint64_t pc_u128_high(pc_u128 a) { return a.high; }
 
 static inline pc_u128 pc_u128_add(pc_u128 a, pc_u128 b) {
     uint64_t low = a.low + b.low;
@@ -115,34 +85,12 @@ static inline pc_u128 pc_u128_mul(pc_u128 a, pc_u128 b) {
     return product;
 }
 
-/* The quotient, and where `rest` says so the remainder: bit by bit, from the highest. */
-static inline pc_u128 pc_u128_divide(pc_u128 a, pc_u128 b, bool rest) {
-    pc_u128 quotient = pc_u128_of(0u, 0u), left = quotient;
-    for (unsigned i = 128; i-- > 0u;) {
-        bool out = left.high >> 63 != 0u;
-        left = pc_u128_shl(left, 1);
-        left.low |= pc_u128_shr(a, i).low & 1u;
-        quotient = pc_u128_shl(quotient, 1);
-        if (out || !pc_u128_lt(left, b)) {
-            left = pc_u128_sub(left, b);
-            quotient.low |= 1u;
-        }
-    }
-    return rest ? left : quotient;
-}
-
-static inline pc_u128 pc_u128_div(pc_u128 a, pc_u128 b) { return pc_u128_divide(a, b, false); }
-
-static inline pc_u128 pc_u128_rem(pc_u128 a, pc_u128 b) { return pc_u128_divide(a, b, true); }
-
-#endif
-
 static inline bool pc_u128_le(pc_u128 a, pc_u128 b) { return !pc_u128_lt(b, a); }
 
 /* The number whose place among unsigned numbers is that of `a` among signed ones. */
 static inline pc_u128 pc_u128_flip(pc_u128 a) { return pc_u128_xor(a, pc_u128_of(0u, UINT64_C(0x8000000000000000))); }
 
-static inline bool pc_u128_negative(pc_u128 a) { return pc_u128_high(a) >> 63 != 0u; }
+static inline bool pc_u128_negative(pc_u128 a) { return a.high >> 63 != 0u; }
 
 static inline pc_u128 pc_u128_sar(pc_u128 a, unsigned n) {
     return pc_u128_negative(a) ? pc_u128_not(pc_u128_shr(pc_u128_not(a), n)) : pc_u128_shr(a, n);
@@ -175,16 +123,24 @@ static inline uint64_t pc_word(const uint8_t *at) {
            (uint64_t)at[5] << 40 | (uint64_t)at[6] << 48 | (uint64_t)at[7] << 56;
 }
 
-/* Which of some bytes, in a multiple of eight up to 64, equal one: bit i stands for at[i]. */
+/* Which of some bytes, in a multiple of eight up to 64, equal one: bit i stands for at[i]. The first loop only finds whether any does, in
+ * a form that compilers vectorize. */
 static inline uint64_t pc_equal_bytes(const uint8_t *at, uint8_t byte, unsigned count) {
     const uint64_t ones = UINT64_C(0x0101010101010101), low = UINT64_C(0x7f7f7f7f7f7f7f7f);
-    uint64_t found = 0;
+    uint64_t any = 0, found = 0;
+    for (unsigned i = 0; i < count; i += 8u) {
+        uint64_t differ;
+        memcpy(&differ, at + i, sizeof differ);
+        differ ^= byte * ones;
+        any |= (differ - ones) & ~differ;
+    }
+    if ((any & ~low) == 0u) {
+        return 0u;
+    }
     for (unsigned i = 0; i < count; i += 8u) {
         uint64_t differ = pc_word(at + i) ^ (byte * ones);
-        if (((differ - ones) & ~differ & ~low) != 0u) { /* some byte of `differ` is zero */
-            uint64_t zeros = ~(((differ & low) + low) | differ | low) >> 7;
-            found |= (zeros * UINT64_C(0x0102040810204080) >> 56) << i;
-        }
+        uint64_t zeros = ~(((differ & low) + low) | differ | low) >> 7;
+        found |= (zeros * UINT64_C(0x0102040810204080) >> 56) << i;
     }
     return found;
 }
@@ -2715,8 +2671,8 @@ static inline uint32_t pc_get_get_wide(pc_Reader *reader, pc_u128 *value) {
  */
 static inline pc_tuple_u64_u64 pc_wide_halves(pc_u128 number) {
     pc_tuple_u64_u64 result;
-    result.f0 = pc_u128_low(pc_u128_rem(number, pc_u128_of(0u, 1u)));
-    result.f1 = pc_u128_low(pc_u128_div(number, pc_u128_of(0u, 1u)));
+    result.f0 = pc_u128_low(pc_u128_and(number, pc_u128_of(UINT64_C(0xffffffffffffffff), 0u)));
+    result.f1 = pc_u128_low(pc_u128_shr(number, 64u));
     return result;
 }
 
@@ -6283,3 +6239,7 @@ uint32_t postcard_feed(postcard_accumulator *a, const void *piece, size_t size, 
     *count = pc_size(in_count);
     return status;
 }
+
+#if defined(__GNUC__) && !defined(__clang__)
+#pragma GCC diagnostic pop
+#endif

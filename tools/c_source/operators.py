@@ -83,6 +83,9 @@ def shifted(name, signed, width, a, b):
 def divided(name, signed, width, a, b):
     """Returns a quotient or a remainder. A signed one is made of 64 or of 128 bits."""
     if width == 128:
+        power = b.literal.bit_length() - 1 if b.literal and not signed else -1
+        if power >= 0 and b.literal == 1 << power:
+            return called('pc_u128_shr', a, literal(32, power)) if name == 'Div' else called('pc_u128_and', a, literal(128, b.literal - 1))
         return called('pc_u128_' + ('s' if signed else '') + name.lower(), a, b)
     if not signed:
         return narrow(width, binary(wide(a, width), '/' if name == 'Div' else '%', b))

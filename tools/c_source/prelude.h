@@ -1,42 +1,4 @@
-/* Numbers of 128 bits: the compiler's own where it has them, and else two halves. */
-#if defined(__SIZEOF_INT128__) && !defined(POSTCARD_NO_INT128)
-
-__extension__ typedef unsigned __int128 pc_u128;
-
-static inline pc_u128 pc_u128_of(uint64_t low, uint64_t high) { return (pc_u128)high << 64 | low; }
-
-static inline uint64_t pc_u128_low(pc_u128 a) { return (uint64_t)a; }
-
-static inline uint64_t pc_u128_high(pc_u128 a) { return (uint64_t)(a >> 64); }
-
-static inline pc_u128 pc_u128_add(pc_u128 a, pc_u128 b) { return a + b; }
-
-static inline pc_u128 pc_u128_sub(pc_u128 a, pc_u128 b) { return a - b; }
-
-static inline pc_u128 pc_u128_mul(pc_u128 a, pc_u128 b) { return a * b; }
-
-static inline pc_u128 pc_u128_div(pc_u128 a, pc_u128 b) { return a / b; }
-
-static inline pc_u128 pc_u128_rem(pc_u128 a, pc_u128 b) { return a % b; }
-
-static inline pc_u128 pc_u128_and(pc_u128 a, pc_u128 b) { return a & b; }
-
-static inline pc_u128 pc_u128_or(pc_u128 a, pc_u128 b) { return a | b; }
-
-static inline pc_u128 pc_u128_xor(pc_u128 a, pc_u128 b) { return a ^ b; }
-
-static inline pc_u128 pc_u128_not(pc_u128 a) { return ~a; }
-
-static inline pc_u128 pc_u128_shl(pc_u128 a, unsigned n) { return a << n; }
-
-static inline pc_u128 pc_u128_shr(pc_u128 a, unsigned n) { return a >> n; }
-
-static inline bool pc_u128_eq(pc_u128 a, pc_u128 b) { return a == b; }
-
-static inline bool pc_u128_lt(pc_u128 a, pc_u128 b) { return a < b; }
-
-#else
-
+/* Numbers of 128 bits, in two halves: compilers make better code of these than of their own such numbers. */
 typedef struct pc_u128 {
     uint64_t low;
     uint64_t high;
@@ -50,8 +12,6 @@ static inline pc_u128 pc_u128_of(uint64_t low, uint64_t high) {
 }
 
 static inline uint64_t pc_u128_low(pc_u128 a) { return a.low; }
-
-static inline uint64_t pc_u128_high(pc_u128 a) { return a.high; }
 
 static inline pc_u128 pc_u128_add(pc_u128 a, pc_u128 b) {
     uint64_t low = a.low + b.low;
@@ -123,8 +83,6 @@ static inline pc_u128 pc_u128_div(pc_u128 a, pc_u128 b) { return pc_u128_divide(
 
 static inline pc_u128 pc_u128_rem(pc_u128 a, pc_u128 b) { return pc_u128_divide(a, b, true); }
 
-#endif
-
 static inline bool pc_u128_ne(pc_u128 a, pc_u128 b) { return !pc_u128_eq(a, b); }
 
 static inline bool pc_u128_le(pc_u128 a, pc_u128 b) { return !pc_u128_lt(b, a); }
@@ -132,7 +90,7 @@ static inline bool pc_u128_le(pc_u128 a, pc_u128 b) { return !pc_u128_lt(b, a); 
 /* The number whose place among unsigned numbers is that of `a` among signed ones. */
 static inline pc_u128 pc_u128_flip(pc_u128 a) { return pc_u128_xor(a, pc_u128_of(0u, UINT64_C(0x8000000000000000))); }
 
-static inline bool pc_u128_negative(pc_u128 a) { return pc_u128_high(a) >> 63 != 0u; }
+static inline bool pc_u128_negative(pc_u128 a) { return a.high >> 63 != 0u; }
 
 static inline pc_u128 pc_u128_sar(pc_u128 a, unsigned n) {
     return pc_u128_negative(a) ? pc_u128_not(pc_u128_shr(pc_u128_not(a), n)) : pc_u128_shr(a, n);
@@ -210,7 +168,7 @@ static inline uint32_t pc_count_ones16(uint16_t a) { return pc_count_ones64(a); 
 
 static inline uint32_t pc_count_ones8(uint8_t a) { return pc_count_ones64(a); }
 
-static inline uint32_t pc_count_ones128(pc_u128 a) { return pc_count_ones64(pc_u128_low(a)) + pc_count_ones64(pc_u128_high(a)); }
+static inline uint32_t pc_count_ones128(pc_u128 a) { return pc_count_ones64(a.low) + pc_count_ones64(a.high); }
 
 /* The number of zeros below the lowest one, which is the width where there is none. */
 static inline uint32_t pc_trailing_zeros64(uint64_t a) {
@@ -231,7 +189,7 @@ static inline uint32_t pc_trailing_zeros16(uint16_t a) { return a != 0u ? pc_tra
 static inline uint32_t pc_trailing_zeros8(uint8_t a) { return a != 0u ? pc_trailing_zeros64(a) : 8u; }
 
 static inline uint32_t pc_trailing_zeros128(pc_u128 a) {
-    return pc_u128_low(a) != 0u ? pc_trailing_zeros64(pc_u128_low(a)) : 64u + pc_trailing_zeros64(pc_u128_high(a));
+    return a.low != 0u ? pc_trailing_zeros64(a.low) : 64u + pc_trailing_zeros64(a.high);
 }
 
 /* The number of zeros above the highest one, which is the width where there is none. */
@@ -250,7 +208,7 @@ static inline uint32_t pc_leading_zeros16(uint16_t a) { return pc_leading_zeros6
 static inline uint32_t pc_leading_zeros8(uint8_t a) { return pc_leading_zeros64(a) - 56u; }
 
 static inline uint32_t pc_leading_zeros128(pc_u128 a) {
-    return pc_u128_high(a) != 0u ? pc_leading_zeros64(pc_u128_high(a)) : 64u + pc_leading_zeros64(pc_u128_low(a));
+    return a.high != 0u ? pc_leading_zeros64(a.high) : 64u + pc_leading_zeros64(a.low);
 }
 
 /* Eight bytes as a number, the lowest first. */
@@ -259,16 +217,24 @@ static inline uint64_t pc_word(const uint8_t *at) {
            (uint64_t)at[5] << 40 | (uint64_t)at[6] << 48 | (uint64_t)at[7] << 56;
 }
 
-/* Which of some bytes, in a multiple of eight up to 64, equal one: bit i stands for at[i]. */
+/* Which of some bytes, in a multiple of eight up to 64, equal one: bit i stands for at[i]. The first loop only finds whether any does, in
+ * a form that compilers vectorize. */
 static inline uint64_t pc_equal_bytes(const uint8_t *at, uint8_t byte, unsigned count) {
     const uint64_t ones = UINT64_C(0x0101010101010101), low = UINT64_C(0x7f7f7f7f7f7f7f7f);
-    uint64_t found = 0;
+    uint64_t any = 0, found = 0;
+    for (unsigned i = 0; i < count; i += 8u) {
+        uint64_t differ;
+        memcpy(&differ, at + i, sizeof differ);
+        differ ^= byte * ones;
+        any |= (differ - ones) & ~differ;
+    }
+    if ((any & ~low) == 0u) {
+        return 0u;
+    }
     for (unsigned i = 0; i < count; i += 8u) {
         uint64_t differ = pc_word(at + i) ^ (byte * ones);
-        if (((differ - ones) & ~differ & ~low) != 0u) { /* some byte of `differ` is zero */
-            uint64_t zeros = ~(((differ & low) + low) | differ | low) >> 7;
-            found |= (zeros * UINT64_C(0x0102040810204080) >> 56) << i;
-        }
+        uint64_t zeros = ~(((differ & low) + low) | differ | low) >> 7;
+        found |= (zeros * UINT64_C(0x0102040810204080) >> 56) << i;
     }
     return found;
 }

@@ -101,12 +101,17 @@ class Program:
             return str(literal(v['width'], v['value']))
         if tag == 'Bool' and t == BOOL:
             return 'true' if v else 'false'
+        if tag == 'Parts' and t[0] in ('named', 'struct') and self.layout.variants(t) is None:
+            parts = [self.initializer(f, x) for f, x in zip(self.layout.fields(t), v) if not self.layout.is_empty(f)]
+            return '{%s}' % ', '.join(parts)
         if t[0] != 'array' or tag in ('Int', 'Bool'):
             raise Unsupported('a constant %s of the type %s' % (tag, t[0]))
         if tag == 'Ints':
             checked('numbers', v)
             return '{{%s}}' % ', '.join(str(literal(v['width'], x)) for x in v['values'])
         parts = v if tag == 'Parts' else [v[0]] * t[2]
+        if len(parts) != t[2]:
+            raise Unsupported('a constant of %d parts for %d' % (len(parts), t[2]))
         return '{{%s}}' % ', '.join(self.initializer(t[1], x) for x in parts)
 
 
