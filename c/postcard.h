@@ -38,7 +38,8 @@ enum {
     POSTCARD_NO_VALUE = 14,      /* only from generated code and postcard_text.h: the bytes encode no value of the type */
     POSTCARD_OUT_OF_MEMORY = 16, /* only from postcard_text.h */
     POSTCARD_BAD_TYPE = 17,      /* only from postcard_text.h: not a type expression */
-    POSTCARD_BAD_TEXT = 18       /* only from postcard_text.h: not a value of the type */
+    POSTCARD_BAD_TEXT = 18,      /* only from postcard_text.h: not a value of the type */
+    POSTCARD_TOO_LARGE = 19      /* only where size_t has fewer than 64 bits: a count that it can't hold */
 };
 
 /* Bytes that are lent: they lie in what the reader was made over. */
