@@ -4,6 +4,7 @@
 //! let mut buffer = [0; 16];
 //! let used = to_slice(&[1u32, 300].as_slice(), &mut buffer)?;
 //! assert_eq!(rt; &*used, [0x02, 0x01, 0xAC, 0x02].as_slice());
+//! let bytes = [0x03, 0x48, 0x69, 0x21, 0x07];
 //! let (text, rest) = take_from_bytes::<&str>(rt.alloc(), &bytes)?;
 //! let frame = to_slice_cobs(&[0x01u8, 0x00, 0x20, 0x30].as_slice(), &mut buffer)?;
 //! ```
@@ -12,10 +13,10 @@
 //! values have trees, bytes spell trees, and the canonical encoding of a tree is its one shortest
 //! spelling.
 //!
-//! A value *refuses itself* if its own `Serialize` may fail whatever flavor it is written to: it
+//! A value *refuses itself* if its own `Serialize` may fail whatever flavor it is written to. It
 //! breaks a rule of its type, its type begins a list without a length, or it is written as a text
-//! whose `Display` may fail. No value of this library's types does, unless a part of it does, but
-//! for a `SystemTime` that std doesn't make. For a type of your own its shape says so
+//! whose `Display` may fail. Of this library's types only a `SystemTime` outside of its range does,
+//! and what contains it; std makes no such time. For a type of your own its shape says so
 //! (`specs/Refusing.antt` of `postcard_shape`).
 //!
 //! # Errors of encoding
