@@ -36,6 +36,8 @@ class Names:
         """Refuses a name at file scope that a second declaration would have."""
         if name in self.taken:
             raise Refused(place, f"the C name `{name}` is that of line {self.taken[name][0]} too")
+        if not name.isascii():
+            raise Refused(place, f"the C name `{name}` has a letter beyond ASCII")
         if name.startswith("postcard_"):
             raise Refused(place, f"the C name `{name}` is one of the library: give a --prefix")
         self.taken[name] = place

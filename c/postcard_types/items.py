@@ -112,9 +112,16 @@ def read_alias(cursor, _):
     return kind
 
 
+def name_of_part(cursor):
+    """Returns the token where the name of a field or a variant must stand. Its letters are those of ASCII."""
+    if not cursor.token.text.isascii():
+        cursor.refuse("expected a letter of ASCII, a digit or `_`")
+    return cursor.token
+
+
 def read_variant(cursor, before, depth):
     """Reads a variant after others."""
-    name = cursor.token
+    name = name_of_part(cursor)
     if not name.is_name or not name.text[0].isupper():
         cursor.refuse("expected the name of a variant")
     if any(variant.name == name.text for variant in before):
@@ -140,7 +147,7 @@ def read_fields(cursor, depth):
     """Reads `name: T, ..` up to the `}`."""
     fields = []
     while not cursor.take("}"):
-        name = cursor.token
+        name = name_of_part(cursor)
         if not name.is_name:
             cursor.refuse("expected the name of a field")
         if any(field.name == name.text for field in fields):

@@ -8,12 +8,14 @@ import re
 BLANK = re.compile(r"[ \t\n\r\f]+")
 LINE_COMMENT = re.compile(r"//[^\n]*")
 COMMENT_SIGN = re.compile(r"/\*|\*/")
-LIFETIME = re.compile(r"'[A-Za-z0-9_]+(?!['A-Za-z0-9_]),?")
+# The characters of a word: letters, digits, `_`, and each character beyond ASCII.
+LETTERS = "A-Za-z0-9_\x80-\U0010ffff"
+LIFETIME = re.compile(rf"'[{LETTERS}]+(?!['{LETTERS}]),?")
 RAW_OPENING = re.compile(r'(?:r|br|cr)(#*)"')
-WORD = re.compile(r"[A-Za-z0-9_]+")
+WORD = re.compile(rf"[{LETTERS}]+")
 LITERAL = re.compile(r'"(?:\\.|[^"\\])*"|\'(?:\\.|[^\'\\])*\'', re.DOTALL)
 CONTROL = re.compile("[\x00-\x1f\x7f-\x9f\u2028\u2029]")
-NAME = re.compile(r"[A-Za-z_][A-Za-z0-9_]*")
+NAME = re.compile(rf"(?![0-9])[{LETTERS}]+")
 
 
 class Refused(Exception):
@@ -99,8 +101,6 @@ class Scanner:
             if not length:
                 raise Refused(self.place, "this literal isn't closed")
             return length
-        if not character.isascii():
-            raise Refused(self.place, "expected a character of ASCII")
         return 1
 
 
