@@ -3,7 +3,7 @@
 ghost use Rattle.std.specs.Prelude.{◌≡◌, ◌≤◌, ℕ, List, ⊤, length, take, IfOk, IfErr, IfSome};
 ghost use Rattle.postcard_cli_files.specs.{Failed, MayHave};
 
-use postcard_de_flavors::{Plain, Reader};
+use postcard_de_flavors::Reader;
 use std::alloc::Global;
 use std::fs::File;
 use std::io::{self, Read};
@@ -48,7 +48,7 @@ pub trait Files {
 pub struct Disk<'a>(pub &'a HostRuntime);
 
 impl Files for Disk<'_> {
-    type Opened = Plain<File>;
+    type Opened = DiskFile;
 
     ghost gives = { λ _ _ _. ⊤ };
 
@@ -61,11 +61,36 @@ impl Files for Disk<'_> {
         }
     }
 
-    fn open(&self, name: &str) -> Result<Plain<File>, ReadError> {
+    fn open(&self, name: &str) -> Result<DiskFile, ReadError> {
         match File::open(self.0, name) {
-            Ok(file) => Ok(Plain::new(file)),
+            Ok(file) => Ok(DiskFile { file }),
             Err(error) => Err(read_error(error)),
         }
+    }
+}
+
+/// An open file of the system. Nothing is claimed of what it has left, and no read is promised to
+/// succeed.
+#[derive(Drop)]
+pub struct DiskFile {
+    file: File,
+}
+
+impl Read for DiskFile {
+    fn read(&mut self, buf: &mut [u8]) -> io::Result<usize> {
+        self.file.read(buf)
+    }
+}
+
+impl Reader for DiskFile {
+    ghost steady = { λ _. ⊥ };
+
+    fn read_some(&mut self, buf: &mut [u8]) -> io::Result<usize> {
+        self.read(buf)
+    }
+
+    fn read_full(&mut self, buf: &mut [u8]) -> io::Result<()> {
+        self.file.read_exact(buf)
     }
 }
 

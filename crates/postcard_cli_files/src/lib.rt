@@ -13,5 +13,5 @@ pub mod input;
 pub mod type_name;
 
 pub use fault::TypeFault;
-pub use files::{Disk, Files, ReadError};
+pub use files::{Disk, DiskFile, Files, ReadError};
 pub use input::run;
