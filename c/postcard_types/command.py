@@ -130,7 +130,7 @@ def has_text(file, text):
 
 def main(arguments):
     """Runs a call. Returns 0, or 2 if it is refused and no file is written."""
-    if arguments == ["--help"]:
+    if "--help" in arguments:
         print(USAGE)
         return 0
     makers = {"c": c_texts, "python": python_texts}
