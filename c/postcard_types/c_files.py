@@ -2,7 +2,7 @@
 from .c_functions import HELPERS, Functions
 from .c_names import Names
 from .c_types import Types, comment, has_struct
-from .model import MOST, Bytes, List_, Named, Number, Scalar, Text
+from .model import MOST, Bytes, List_, Named, Text
 from .tokens import Refused
 
 ABOUT = """/* Messages of {}, as structs of C99 and C++. Written by `pcard c`: don't edit it, but write it again.

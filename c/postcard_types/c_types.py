@@ -1,6 +1,6 @@
 """The declarations of types in C."""
 from .c_names import size_type
-from .model import Array, Bytes, List_, Named, Number, Option, Result, Scalar, Text, Tuple_
+from .model import Array, Bytes, Named, Number, Option, Result, Scalar, Text, Tuple_
 from .tokens import Refused
 
 NUMBERS = {f"{sign}{bits}": f"{'u' if sign == 'u' else ''}int{bits}_t" for sign in "ui" for bits in (8, 16, 32, 64)}

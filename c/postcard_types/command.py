@@ -7,7 +7,8 @@ import sys
 from .c_files import Files
 from .concrete import UnusedCapacity, model_of
 from .declarations import File, number_of
-from .python_files import PythonFile, hides_module
+from .python_files import PythonFile
+from .python_names import hides_module
 from .tokens import Refused
 
 USAGE = """usage: pcard c FILE [--out DIR] [--prefix P] [--only NAME,..] [--capacity NAME.field=N]
@@ -75,13 +76,18 @@ def stem_of(file):
     return f"file_{stem}" if stem[:1].isdigit() else stem
 
 
+def shown_name(file):
+    """Returns the name of the file as it may stand in a comment."""
+    return re.sub(r"[^\w. -]", "_", os.path.basename(file))
+
+
 def c_texts(file, options):
     """Returns the names and texts of the header and the source."""
     stem = stem_of(file)
     if stem in ("postcard", "postcard_text"):
         raise Failed(f"{file}: {stem}.h is a header of the library: rename the file")
     model = model_of(File(text_of(file)), options["--only"], options["--capacity"])
-    files = Files(model, os.path.basename(file), stem, options["--prefix"])
+    files = Files(model, shown_name(file), stem, options["--prefix"])
     return {f"{stem}.h": files.header(), f"{stem}.c": files.source()}
 
 
@@ -91,7 +97,7 @@ def python_texts(file, _):
     if hides_module(stem):
         raise Failed(f"{file}: a module `{stem}` would hide one that Python needs: rename the file")
     model = model_of(File(text_of(file)))
-    texts = {f"{stem}.py": PythonFile(model, os.path.basename(file)).text()}
+    texts = {f"{stem}.py": PythonFile(model, shown_name(file)).text()}
     for name in sorted(os.listdir(runtime_folder())):
         if name.endswith(".py"):
             with open(os.path.join(runtime_folder(), name), encoding="utf-8") as it:
@@ -130,7 +136,7 @@ def has_text(file, text):
 
 def main(arguments):
     """Runs a call. Returns 0, or 2 if it is refused and no file is written."""
-    if arguments == ["--help"]:
+    if "--help" in arguments:
         print(USAGE)
         return 0
     makers = {"c": c_texts, "python": python_texts}

@@ -3,9 +3,8 @@ have no content.
 """
 from . import c_names
 from .model import BYTE, UNIT, Array, Bytes, List_, Number, Option, Result, Scalar, Text, Tuple_
-from .python_names import Names, hides_module, member, variant
+from .python_names import Names, member, variant
 
-__all__ = ["PythonFile", "hides_module"]
 HINTS = {"bool": "bool", "char": "str", "f32": "float", "f64": "float", "unit": "None"}
 CODECS = {"bool": "_n.boolean", "char": "_n.char", "f32": "_n.f32", "f64": "_n.f64", "unit": "_n.unit"}
 IMPORTS = '''

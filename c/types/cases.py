@@ -10,7 +10,7 @@ LIMITS, TIMES = 60, 2
 
 
 class Cases:
-    """Messages of the types of a file of declarations: valid, the greatest, one beyond each limit, cut, damaged and random."""
+    """Messages of the types of a file of declarations: valid, the greatest, one beyond each limit, cut, damaged, padded and random."""
 
     def __init__(self, declared, seed):
         self.declared, self.oracle, self.random = declared, Oracle(declared), random.Random(seed)
@@ -18,10 +18,10 @@ class Cases:
         self.names = [name for name in declared if not isinstance(declared[name], tuple)]
 
     def fixed(self, name):
-        """Returns messages that a type has whatever the chance: the greatest, and one beyond each limit. Nothing else may refuse these."""
+        """Returns messages that a type has whatever the chance: the greatest, that with a byte after it, and one beyond each limit."""
         kind = ("named", name)
         greatest = self.chance.greatest(kind)
-        found = [] if greatest is None else [self.oracle.write(kind, greatest)]
+        found = [] if greatest is None else [self.oracle.write(kind, greatest), self.oracle.write(kind, greatest) + b"\0"]
         for number in range(1, LIMITS):
             for _ in range(TIMES):
                 left = [number]
@@ -33,14 +33,15 @@ class Cases:
         return found
 
     def some(self, name):
-        """Returns a valid message, and seven that are cut, damaged or random."""
+        """Returns a valid message, and nine that are cut, damaged, padded or random."""
         kind = ("named", name)
         value = self.chance.any(kind)
         message = self.oracle.write(kind, value)
         assert self.oracle.read(kind, message) == (value, len(message)), (name, value)
         cut = [message[: max(len(message) - 1, 0)], message[: self.random.randrange(len(message) + 1)]]
         damaged = [self.damaged(message) for _ in range(4)]
-        return [message, *cut, *damaged, self.random.randbytes(self.random.randint(0, 30))]
+        padded = [self.padded(message) for _ in range(2)]
+        return [message, *cut, *damaged, *padded, self.random.randbytes(self.random.randint(0, 30))]
 
     def damaged(self, message):
         found = bytearray(message + self.random.randbytes(self.random.randint(0, 3)))
@@ -48,6 +49,14 @@ class Cases:
             byte = self.random.choice([0, 1, 2, 0x7F, 0x80, 0xFF, self.random.randrange(256)])
             found[self.random.randrange(len(found))] = byte
         return bytes(found)
+
+    def padded(self, message):
+        """Returns the message with up to 20 bytes of padding behind one of its bytes: where a varint ends, it is accepted up to its most."""
+        if not message:
+            return message
+        at = self.random.randrange(len(message))
+        zeros = b"\x80" * self.random.choice([0, 1, 1, 2, 3, 4, 8, 9, 17, 18, 19]) + b"\0"
+        return message[:at] + bytes([message[at] | 128]) + zeros + message[at + 1 :]
 
     def expected(self, name, message):
         """Returns `ok`, the place after the value and the value; or `err`, the status and the place."""

@@ -34,7 +34,9 @@ def examples():
         (_checksum(b"123456789", 32), 0xCBF43926.to_bytes(4, "little")),
         (_checksum(b"123456789", 16), 0x906E.to_bytes(2, "little")),
     ]
-    return [f"{found.hex()} is not {wanted.hex()}" for found, wanted in rows if found != wanted]
+    wrong = [f"{found.hex()} is not {wanted.hex()}" for found, wanted in rows if found != wanted]
+    slotless = [it for it in (page(b""), messages.Gpio.Read(1), messages.Call.Ping()) if hasattr(it, "__dict__")]
+    return wrong + [f"{it} has no slots" for it in slotless]
 
 
 def refused(call):
