@@ -99,6 +99,12 @@ static void values(void) {
     SAME(lengths, (a));
     SAME(tables, (a));
     SAME(turned, (a));
+    SAME(crossed, (a, b));
+    SAME(chained, (times, a, b));
+    SAME(changed, (a, b));
+    SAME(walked, (a, b));
+    SAME(failing, (a, b));
+    SAME(failing, (a, a));
     uint64_t kept = a, source_kept = a;
     if (replaced(&kept, b) != source_replaced(&source_kept, b) || kept != source_kept) differ("replaced");
 }
@@ -131,6 +137,8 @@ static void slices(void) {
     ends("moved");
     smeared(ours + 1, size % (ROOM - 1)), source_smeared(theirs + 1, size % (ROOM - 1));
     ends("smeared");
+    repeated(ours, size, (uint8_t)most), source_repeated(theirs, size, (uint8_t)most);
+    ends("repeated");
 }
 
 int main(int count, char **words) {

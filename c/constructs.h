@@ -46,6 +46,12 @@ void smeared(uint8_t *bytes, size_t size);
 uint64_t turned(uint64_t n);
 uint64_t replaced(uint64_t *n, uint64_t by);
 uint64_t lanes(const uint8_t *bytes, size_t size);
+uint64_t crossed(uint64_t a, uint64_t b);
+uint64_t chained(uint8_t count, uint64_t a, uint64_t b);
+uint64_t changed(uint64_t a, uint64_t b);
+uint64_t walked(uint64_t path, uint64_t most);
+uint64_t failing(uint64_t a, uint64_t b);
+void repeated(uint8_t *bytes, size_t size, uint8_t shift);
 
 #ifdef __cplusplus
 }

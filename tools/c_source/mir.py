@@ -62,7 +62,6 @@ class Mir:
 
     def __init__(self, files):
         self.functions, self.types, self.impls = {}, {}, {}
-        self.checksum = hashlib.sha256()
         for file in files:
             self.read(file)
 
@@ -105,6 +104,9 @@ class Mir:
             raise Unsupported('no impl ' + name)
         return checked('impl', self.impls[name])
 
-    def note(self, name):
-        """Takes a function that is translated into the checksum."""
-        self.checksum.update(json.dumps([name, self.functions[name]], sort_keys=True).encode())
+    def checksum(self, names):
+        """Returns the SHA-256 of the MIR of some functions."""
+        found = hashlib.sha256()
+        for name in sorted(names):
+            found.update(json.dumps([name, self.functions[name]], sort_keys=True).encode())
+        return found.hexdigest()

@@ -4,7 +4,8 @@
 //! The contracts say what safety asks for, and nothing more: what a function returns has no
 //! meaning. `c/constructs.h` declares the exports, and `c/constructs.c` compares them.
 //!
-//! In reading order: `unsigned`, `signed`, `wide`, `casts`, `choices`, `loops`, `generic`, `memory`.
+//! In reading order: `unsigned`, `signed`, `wide`, `casts`, `choices`, `loops`, `generic`, `memory`,
+//! `order`.
 #![tactic(auto)]
 
 mod casts;
@@ -12,6 +13,7 @@ mod choices;
 mod generic;
 mod loops;
 mod memory;
+mod order;
 mod signed;
 mod unsigned;
 mod wide;
