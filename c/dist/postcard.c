@@ -289,8 +289,8 @@ typedef struct pc_Result_bool_Error {
 
 typedef struct pc_Result_slice_u8_Error {
     uint8_t tag; /* 0 Ok, 1 Err */
-    pc_slice_u8 Ok;
     pc_Error Err;
+    pc_slice_u8 Ok;
 } pc_Result_slice_u8_Error;
 
 typedef struct pc_Digits {
@@ -300,8 +300,8 @@ typedef struct pc_Digits {
 
 typedef struct pc_Result_u128_Error {
     uint8_t tag; /* 0 Ok, 1 Err */
-    pc_u128 Ok;
     pc_Error Err;
+    pc_u128 Ok;
 } pc_Result_u128_Error;
 
 typedef struct pc_Option_u128 {
@@ -311,38 +311,38 @@ typedef struct pc_Option_u128 {
 
 typedef struct pc_Result_Option_u128_Error {
     uint8_t tag; /* 0 Ok, 1 Err */
-    pc_Option_u128 Ok;
     pc_Error Err;
+    pc_Option_u128 Ok;
 } pc_Result_Option_u128_Error;
 
 typedef struct pc_ControlFlow_ErrResidual_Error_Option_u128 {
     uint8_t tag; /* 0 V0, 1 V1 */
-    pc_Option_u128 V0;
     pc_ErrResidual_Error V1;
+    pc_Option_u128 V0;
 } pc_ControlFlow_ErrResidual_Error_Option_u128;
 
 typedef struct pc_ControlFlow_ErrResidual_Error_u128 {
     uint8_t tag; /* 0 V0, 1 V1 */
-    pc_u128 V0;
     pc_ErrResidual_Error V1;
+    pc_u128 V0;
 } pc_ControlFlow_ErrResidual_Error_u128;
 
 typedef struct pc_Result_u16_Error {
     uint8_t tag; /* 0 Ok, 1 Err */
-    uint16_t Ok;
     pc_Error Err;
+    uint16_t Ok;
 } pc_Result_u16_Error;
 
 typedef struct pc_Result_u32_Error {
     uint8_t tag; /* 0 Ok, 1 Err */
-    uint32_t Ok;
     pc_Error Err;
+    uint32_t Ok;
 } pc_Result_u32_Error;
 
 typedef struct pc_Result_u64_Error {
     uint8_t tag; /* 0 Ok, 1 Err */
-    uint64_t Ok;
     pc_Error Err;
+    uint64_t Ok;
 } pc_Result_u64_Error;
 
 typedef struct pc_tuple_u64_u64 {
@@ -357,14 +357,14 @@ typedef struct pc_tuple_u32_u128 {
 
 typedef struct pc_ControlFlow_ErrResidual_Error_u64 {
     uint8_t tag; /* 0 V0, 1 V1 */
-    uint64_t V0;
     pc_ErrResidual_Error V1;
+    uint64_t V0;
 } pc_ControlFlow_ErrResidual_Error_u64;
 
 typedef struct pc_ControlFlow_ErrResidual_Error_slice_u8 {
     uint8_t tag; /* 0 V0, 1 V1 */
-    pc_slice_u8 V0;
     pc_ErrResidual_Error V1;
+    pc_slice_u8 V0;
 } pc_ControlFlow_ErrResidual_Error_slice_u8;
 
 typedef struct pc_Chars {
@@ -469,14 +469,14 @@ typedef struct pc_DecodeReport {
 
 typedef struct pc_Result_DecodeReport_Error {
     uint8_t tag; /* 0 Ok, 1 Err */
-    pc_DecodeReport Ok;
     pc_Error Err;
+    pc_DecodeReport Ok;
 } pc_Result_DecodeReport_Error;
 
 typedef struct pc_ControlFlow_ErrResidual_Error_DecodeReport {
     uint8_t tag; /* 0 V0, 1 V1 */
-    pc_DecodeReport V0;
     pc_ErrResidual_Error V1;
+    pc_DecodeReport V0;
 } pc_ControlFlow_ErrResidual_Error_DecodeReport;
 
 typedef struct pc_Outcome {
@@ -497,6 +497,8 @@ typedef struct pc_Accumulator {
 
 static const pc_array1_u8 pc_table = {{0u}};
 static const pc_array1_u8 pc_table_2 = {{1u}};
+
+/* ---- Functions, each after those that it calls ---- */
 
 /* core::int::usize::saturating_add */
 static inline uint64_t pc_usize_saturating_add(uint64_t self, uint64_t rhs) {

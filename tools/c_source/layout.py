@@ -124,10 +124,22 @@ class Layout:
         if variants is None:
             members = zip(self.fields(t), self.field_names(t))
             return [self.declaration(f, n) + ';' for f, n in members if not self.is_empty(f)]
-        found = ['uint8_t tag; /* %s */' % self.legend(t)]
-        for v, fields in enumerate(variants):
-            found += [self.declaration(f, self.member(t, v, i)) + ';' for i, f in enumerate(fields) if not self.is_empty(f)]
-        return found
+        listed = [(f, self.member(t, v, i)) for v, fields in enumerate(variants) for i, f in enumerate(fields) if not self.is_empty(f)]
+        listed.sort(key=lambda x: self.alignment(x[0]))  # so that what is as small as the tag lies beside it
+        return ['uint8_t tag; /* %s */' % self.legend(t)] + [self.declaration(f, name) + ';' for f, name in listed]
+
+    def alignment(self, t):
+        """Returns what a type's alignment is at most on a processor of 32 bits."""
+        if t[0] == 'int':
+            return min(t[1] // 8, 8)
+        if self.is_empty(t) or t[0] == 'bool' or self.is_plain(t):
+            return 1
+        if t[0] in ('pointer', 'ref'):
+            return 4
+        if t[0] in ('array', 'lanes'):
+            return self.alignment(t[1])
+        fields, variants = self.shape(t)
+        return max(map(self.alignment, fields if variants is None else [f for each in variants for f in each]))
 
     def legend(self, t):
         """Returns which number stands for which variant."""

@@ -62,12 +62,12 @@ def file_text(program, texts, shims, says):
     """Returns the whole C file."""
     types = '\n\n'.join(program.layout.declared)
     tables = '\n'.join(program.table_lines)
-    prototypes = '\n'.join(program.prototypes([key for key, _ in texts]))
-    functions = '\n'.join(text for _, text in texts)
+    prototypes = ''.join(x + '\n' for x in program.prototypes([key for key, _ in texts]))
+    functions = '\n'.join([prototypes] * bool(prototypes) + [text for _, text in texts])
     exports = '\n'.join(shims)
     first = '\n\n'.join(helpers(program.helpers, types + functions + exports))
     nothing = '/* What a pointer to no bytes points to. */\nstatic uint8_t pc_nothing;' if program.uses_nothing else ''
     titled = [(None, INCLUDES % says['header']), (None, BEFORE), ('Helpers', first), (None, nothing), ('Types', types), ('Tables', tables),
-              ('Functions, each after those that it calls', prototypes), (None, functions), ('Exports', exports), (None, AFTER)]
+              ('Functions, each after those that it calls', functions), ('Exports', exports), (None, AFTER)]
     parts = [HEAD % says] + ['%s%s' % ('/* ---- %s ---- */\n\n' % title if title else '', part.strip('\n')) for title, part in titled if part]
     return '\n\n'.join(p.rstrip('\n') for p in parts) + '\n'
