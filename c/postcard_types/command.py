@@ -98,10 +98,13 @@ def python_texts(file, _):
         raise Failed(f"{file}: a module `{stem}` would hide one that Python needs: rename the file")
     model = model_of(File(text_of(file)))
     texts = {f"{stem}.py": PythonFile(model, shown_name(file)).text()}
-    for name in sorted(os.listdir(runtime_folder())):
-        if name.endswith(".py"):
-            with open(os.path.join(runtime_folder(), name), encoding="utf-8") as it:
-                texts[os.path.join(RUNTIME, name)] = it.read()
+    try:
+        for name in sorted(os.listdir(runtime_folder())):
+            if name.endswith(".py"):
+                with open(os.path.join(runtime_folder(), name), encoding="utf-8") as it:
+                    texts[os.path.join(RUNTIME, name)] = it.read()
+    except OSError:
+        raise Failed(f"{runtime_folder()}: the package can't be read") from None
     return texts
 
 

@@ -145,3 +145,41 @@ def read(file):
     """Returns the declarations of a file by their names."""
     with open(file, encoding="utf-8") as it:
         return dict(definition(line) for line in it if line.strip() and not line.startswith("#"))
+
+
+def expression(declared, kind):
+    """Returns a type as an expression of the program pcard. It has no capacities, and no numbers without 0."""
+
+    def of(inner):
+        return expression(declared, inner)
+
+    what = kind[0]
+    if what in ("int", "nonzero"):
+        return kind[1]
+    if what == "fixed":
+        return f"{kind[1].upper()}<{kind[2]}>"
+    if what in ("option", "result"):
+        return f"{what.capitalize()}<{', '.join(map(of, kind[1:]))}>"
+    if what == "list":
+        return f"[{of(kind[1])}]"
+    if what == "array":
+        return f"[{of(kind[1])}; {kind[2]}]"
+    if what == "map":
+        return f"{{{of(kind[1])} => {of(kind[2])}}}"
+    if what == "tuple":
+        return f"({''.join(of(part) + ', ' for part in kind[1])})"
+    if what != "named":
+        return what
+    found = declared[kind[1]]
+    if isinstance(found, tuple):
+        return of(found)
+    if found.kind == "struct":
+        return content(found.style, found.fields, of) or "()"
+    return f"(| {' | '.join(name + content(style, fields, of) for name, style, fields in found.variants)})"
+
+
+def content(style, fields, of):
+    """Returns the expression of the fields of a struct or a variant, or nothing if there are none."""
+    if style == "named":
+        return f"{{{', '.join(f'{name}: {of(kind)}' for name, kind in fields)}}}"
+    return f"({', '.join(of(kind) for _, kind in fields)})" if fields else ""

@@ -1,13 +1,17 @@
 """python_frames.py FOLDER: requires that the frames, streams and checksums of the generated modules in a folder are right: by the examples
-of docs/FORMAT.md and the checks of the catalogue of checksums, and, where POSTCARD_LIBRARY names the shared library, by the proved calls."""
+of docs/FORMAT.md and the checks of the catalogue of checksums, and, where POSTCARD_LIBRARY names the shared library, by the proved calls.
+These must read the same messages, too."""
 import os
 import random
 import sys
 
+HERE = os.path.dirname(os.path.abspath(__file__))
 sys.path.insert(0, os.path.abspath(sys.argv[1]))
-sys.path.insert(1, os.path.dirname(os.path.dirname(os.path.abspath(__file__))))
+sys.path.insert(1, os.path.dirname(HERE))
 
+import kinds  # noqa: E402
 import messages  # noqa: E402
+from cases import Cases  # noqa: E402
 from postcard_runtime import Error, Frames  # noqa: E402
 from postcard_runtime.messages import _checksum  # noqa: E402
 
@@ -102,6 +106,28 @@ def stream(chance):
     return found
 
 
+def checked(call):
+    """Returns how many bytes a call takes, or the status and the place of its error. Where the bytes of an array end, the library names the
+    place of the byte that isn't there, and a module that of the array."""
+    try:
+        return call()
+    except ValueError as problem:
+        return problem.status, problem.place if problem.status != 4 else None
+
+
+def values_beside_the_library(postcard):
+    """Returns how reading random messages differs from the proved library."""
+    declared, wrong = kinds.read(os.path.join(HERE, "messages.types")), []
+    cases = Cases(declared, 11)
+    for name, message in cases.all(4000):
+        cls, written = getattr(messages, name), kinds.expression(declared, ("named", name))
+        found = checked(lambda: len(message) - len(cls.take(message)[1]))
+        wanted = checked(lambda: postcard.check(f"({written})", message))
+        if found != wanted:
+            wrong.append(f"{name} {message.hex()}: {found}, and not {wanted}")
+    return wrong
+
+
 def beside_the_library(postcard):
     """Returns how answers to random streams differ from those of the proved library."""
     chance, wrong = random.Random(9), []
@@ -126,7 +152,7 @@ def main():
     if os.environ.get("POSTCARD_LIBRARY"):
         import postcard
 
-        wrong += beside_the_library(postcard)
+        wrong += beside_the_library(postcard) + values_beside_the_library(postcard)
     for line in wrong[:5]:
         print(line)
     print(f"frames, streams and checksums in Python: {len(wrong)} differ")
