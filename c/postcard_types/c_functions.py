@@ -218,7 +218,7 @@ class Functions:
         if not kind.nonzero:
             return lines
         zero = f"({low} | {high}) == 0" if is_wide else f"{place} == 0"
-        return ["{", *indented(["size_t start = reader->at;", *lines, f"if ({zero}) bad_message_(reader, start);"]), "}"]
+        return ["{", *indented(["size_t begin = reader->at;", *lines, f"if ({zero}) bad_message_(reader, begin);"]), "}"]
 
     def get_bytes(self, kind, place):
         """Returns the lines that read a text or bytes."""

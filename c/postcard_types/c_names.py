@@ -17,7 +17,7 @@ RESERVED = frozenset(
     int8_t int16_t int32_t int64_t uint8_t uint16_t uint32_t uint64_t""".split()
 )
 # What functions that are written have as names of their own.
-LOCALS = frozenset("writer reader value message frame size count used status index start item most text bytes again".split())
+LOCALS = frozenset("writer reader value message frame size count used status index start begin item most text bytes again".split())
 
 
 def size_type(most):

@@ -26,7 +26,7 @@ from postcard_types.tokens import Refused  # noqa: E402
 
 # Types of the files of c/types that `@FILE:NAME` refuses, for what MORE has, and those of which it doesn't read an attribute.
 REFUSED_THERE = {
-    "forms.rs": set("""NonZeros Capacities Lists Arrays Owners Results Shape Holder Request HolderByte RequestShort Generics Unused Same
+    "forms.rs": set("""NonZeros Counted Capacities Lists Arrays Owners Results Shape Holder Request HolderByte RequestShort Generics Unused Same
         Aliases""".split()),
     "sensor.rs": set("Info Log Arg Settings Answer Fault Message".split()),
 }

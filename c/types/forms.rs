@@ -34,7 +34,12 @@ pub struct NonZeros {
     pub c: NonZero<u32>,
     pub d: Option<NonZero<u64>>,
     pub e: NonZeroU128,
+    pub f: Vec<NonZeroU8>,
+    pub g: heapless::Vec<NonZeroI64, 2>,
+    pub h: Result<NonZeroU16, u8>,
+    pub i: Counted,
 }
+pub enum Counted { Off, On(NonZeroI8), Both { a: NonZeroI32, b: Option<NonZeroIsize> } }
 
 /// Capacities of each kind: of the type, of an attribute, and more than 255.
 pub struct Capacities {

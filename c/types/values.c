@@ -45,10 +45,12 @@ static void bad_values(void) {
     CHECK(Settings_encode(&settings, out, sizeof out, &count) == POSTCARD_BAD_VALUE);
     settings.values.count = 1, settings.values.items[0]._1.unit = 0xD800;
     CHECK(Settings_encode(&settings, out, sizeof out, &count) == POSTCARD_BAD_CHAR);
-    NonZeros numbers = {1, -1, 0, {false, 0}, {0, 1}};
+    NonZeros numbers;
+    CLEAR(numbers);
+    numbers.a = 1, numbers.b = -1, numbers.e.high = 1, numbers.h.as.err = 7;
     CHECK(NonZeros_encode(&numbers, out, sizeof out, &count) == POSTCARD_BAD_VALUE);
     numbers.c = 5;
-    CHECK(NonZeros_encode(&numbers, out, sizeof out, &count) == 0 && count == 1 + 1 + 1 + 1 + 10);
+    CHECK(NonZeros_encode(&numbers, out, sizeof out, &count) == 0 && count == 1 + 1 + 1 + 1 + 10 + 1 + 1 + 2 + 1);
     numbers.e.high = 0;
     CHECK(NonZeros_encode(&numbers, out, sizeof out, &count) == POSTCARD_BAD_VALUE);
 }

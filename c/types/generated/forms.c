@@ -224,11 +224,210 @@ postcard_status forms_option_nonzero_u64_get(postcard_reader *reader, forms_opti
     postcard_get_option(reader, &value->some);
     if (value->some) {
         {
-            size_t start = reader->at;
+            size_t begin = reader->at;
             value->value = 0;
             postcard_get_u64(reader, &value->value);
-            if (value->value == 0) bad_message_(reader, start);
+            if (value->value == 0) bad_message_(reader, begin);
         }
+    }
+    return reader->status;
+}
+
+postcard_status forms_list_nonzero_u8_put(postcard_writer *writer, const forms_list_nonzero_u8 *value) {
+    postcard_put_count(writer, value->count);
+    if (value->items == NULL) {
+        uint8_t item;
+        size_t read = 0;
+        postcard_reader reader = forms_list_nonzero_u8_reader(value);
+        for (; forms_list_nonzero_u8_next(&reader, &item); read++) {
+            if (item == 0) bad_value_(writer);
+            postcard_put_u8(writer, item);
+        }
+        if (read != value->count || reader.status != POSTCARD_OK) bad_value_(writer);
+        return writer->status;
+    }
+    for (size_t i = 0; i < value->count; i++) {
+        if (value->items[i] == 0) bad_value_(writer);
+        postcard_put_u8(writer, value->items[i]);
+    }
+    return writer->status;
+}
+
+postcard_status forms_list_nonzero_u8_get(postcard_reader *reader, forms_list_nonzero_u8 *value) {
+    uint8_t item;
+    size_t count = 0, start = reader->at;
+    value->count = 0;
+    value->items = NULL, value->encoded.bytes = NULL, value->encoded.size = 0;
+    if (postcard_get_count(reader, &count) != POSTCARD_OK) return reader->status;
+    start = reader->at;
+    for (size_t i = 0; i < count && reader->status == POSTCARD_OK; i++) {
+        {
+            size_t begin = reader->at;
+            item = 0;
+            postcard_get_u8(reader, &item);
+            if (item == 0) bad_message_(reader, begin);
+        }
+    }
+    if (reader->status == POSTCARD_OK) value->count = count, value->encoded.bytes = reader->bytes + start, value->encoded.size = reader->at - start;
+    return reader->status;
+}
+
+bool forms_list_nonzero_u8_next(postcard_reader *reader, uint8_t *item) {
+    if (reader->status != POSTCARD_OK || reader->at >= reader->size) return false;
+    {
+        size_t begin = reader->at;
+        *item = 0;
+        postcard_get_u8(reader, item);
+        if (*item == 0) bad_message_(reader, begin);
+    }
+    return reader->status == POSTCARD_OK;
+}
+
+postcard_status forms_list2_nonzero_i64_put(postcard_writer *writer, const forms_list2_nonzero_i64 *value) {
+    if (value->count > 2u) return bad_value_(writer), writer->status;
+    postcard_put_count(writer, value->count);
+    for (size_t i = 0; i < value->count; i++) {
+        if (value->items[i] == 0) bad_value_(writer);
+        postcard_put_i64(writer, value->items[i]);
+    }
+    return writer->status;
+}
+
+postcard_status forms_list2_nonzero_i64_get(postcard_reader *reader, forms_list2_nonzero_i64 *value) {
+    size_t count = 0, start = reader->at;
+    value->count = 0;
+    if (postcard_get_count(reader, &count) != POSTCARD_OK) return reader->status;
+    if (count > 2u) return bad_message_(reader, start), reader->status;
+    for (size_t i = 0; i < count && reader->status == POSTCARD_OK; i++) {
+        {
+            size_t begin = reader->at;
+            value->items[i] = 0;
+            postcard_get_i64(reader, &value->items[i]);
+            if (value->items[i] == 0) bad_message_(reader, begin);
+        }
+    }
+    if (reader->status == POSTCARD_OK) value->count = (uint8_t)count;
+    return reader->status;
+}
+
+postcard_status forms_result_nonzero_u16_u8_put(postcard_writer *writer, const forms_result_nonzero_u16_u8 *value) {
+    postcard_put_variant(writer, value->is_ok ? 0u : 1u);
+    if (value->is_ok) {
+        if (value->as.ok == 0) bad_value_(writer);
+        postcard_put_u16(writer, value->as.ok);
+    }
+    if (!value->is_ok) {
+        postcard_put_u8(writer, value->as.err);
+    }
+    return writer->status;
+}
+
+postcard_status forms_result_nonzero_u16_u8_get(postcard_reader *reader, forms_result_nonzero_u16_u8 *value) {
+    uint32_t index = 0;
+    size_t start = reader->at;
+    postcard_get_variant(reader, &index);
+    if (index >= 2u) index = 0, bad_message_(reader, start);
+    value->is_ok = index == 0;
+    if (value->is_ok) {
+        {
+            size_t begin = reader->at;
+            value->as.ok = 0;
+            postcard_get_u16(reader, &value->as.ok);
+            if (value->as.ok == 0) bad_message_(reader, begin);
+        }
+    }
+    if (!value->is_ok) {
+        value->as.err = 0;
+        postcard_get_u8(reader, &value->as.err);
+    }
+    return reader->status;
+}
+
+postcard_status forms_option_nonzero_i64_put(postcard_writer *writer, const forms_option_nonzero_i64 *value) {
+    if (value->some) {
+        postcard_put_some(writer);
+        if (value->value == 0) bad_value_(writer);
+        postcard_put_i64(writer, value->value);
+    } else {
+        postcard_put_none(writer);
+    }
+    return writer->status;
+}
+
+postcard_status forms_option_nonzero_i64_get(postcard_reader *reader, forms_option_nonzero_i64 *value) {
+    value->some = false;
+    postcard_get_option(reader, &value->some);
+    if (value->some) {
+        {
+            size_t begin = reader->at;
+            value->value = 0;
+            postcard_get_i64(reader, &value->value);
+            if (value->value == 0) bad_message_(reader, begin);
+        }
+    }
+    return reader->status;
+}
+
+postcard_status Counted_put(postcard_writer *writer, const Counted *value) {
+    if ((uint32_t)value->tag >= 3u) bad_value_(writer);
+    postcard_put_variant(writer, (uint32_t)value->tag);
+    switch (value->tag) {
+        case Counted_Off:
+            break;
+        case Counted_On:
+            if (value->as.on == 0) bad_value_(writer);
+            postcard_put_i8(writer, value->as.on);
+            break;
+        case Counted_Both:
+            if (value->as.both.a == 0) bad_value_(writer);
+            postcard_put_i32(writer, value->as.both.a);
+            if (value->as.both.b.some) {
+                postcard_put_some(writer);
+                if (value->as.both.b.value == 0) bad_value_(writer);
+                postcard_put_i64(writer, value->as.both.b.value);
+            } else {
+                postcard_put_none(writer);
+            }
+            break;
+    }
+    return writer->status;
+}
+
+postcard_status Counted_get(postcard_reader *reader, Counted *value) {
+    uint32_t index = 0;
+    size_t start = reader->at;
+    postcard_get_variant(reader, &index);
+    if (index >= 3u) index = 0, bad_message_(reader, start);
+    value->tag = (Counted_tag)index;
+    switch (value->tag) {
+        case Counted_Off:
+            break;
+        case Counted_On:
+            {
+                size_t begin = reader->at;
+                value->as.on = 0;
+                postcard_get_i8(reader, &value->as.on);
+                if (value->as.on == 0) bad_message_(reader, begin);
+            }
+            break;
+        case Counted_Both:
+            {
+                size_t begin = reader->at;
+                value->as.both.a = 0;
+                postcard_get_i32(reader, &value->as.both.a);
+                if (value->as.both.a == 0) bad_message_(reader, begin);
+            }
+            value->as.both.b.some = false;
+            postcard_get_option(reader, &value->as.both.b.some);
+            if (value->as.both.b.some) {
+                {
+                    size_t begin = reader->at;
+                    value->as.both.b.value = 0;
+                    postcard_get_i64(reader, &value->as.both.b.value);
+                    if (value->as.both.b.value == 0) bad_message_(reader, begin);
+                }
+            }
+            break;
     }
     return reader->status;
 }
@@ -249,44 +448,52 @@ postcard_status NonZeros_put(postcard_writer *writer, const NonZeros *value) {
     }
     if ((value->e.low | value->e.high) == 0) bad_value_(writer);
     postcard_put_u128(writer, value->e.low, value->e.high);
+    forms_list_nonzero_u8_put(writer, &value->f);
+    forms_list2_nonzero_i64_put(writer, &value->g);
+    forms_result_nonzero_u16_u8_put(writer, &value->h);
+    Counted_put(writer, &value->i);
     return writer->status;
 }
 
 postcard_status NonZeros_get(postcard_reader *reader, NonZeros *value) {
     {
-        size_t start = reader->at;
+        size_t begin = reader->at;
         value->a = 0;
         postcard_get_u8(reader, &value->a);
-        if (value->a == 0) bad_message_(reader, start);
+        if (value->a == 0) bad_message_(reader, begin);
     }
     {
-        size_t start = reader->at;
+        size_t begin = reader->at;
         value->b = 0;
         postcard_get_i16(reader, &value->b);
-        if (value->b == 0) bad_message_(reader, start);
+        if (value->b == 0) bad_message_(reader, begin);
     }
     {
-        size_t start = reader->at;
+        size_t begin = reader->at;
         value->c = 0;
         postcard_get_u32(reader, &value->c);
-        if (value->c == 0) bad_message_(reader, start);
+        if (value->c == 0) bad_message_(reader, begin);
     }
     value->d.some = false;
     postcard_get_option(reader, &value->d.some);
     if (value->d.some) {
         {
-            size_t start = reader->at;
+            size_t begin = reader->at;
             value->d.value = 0;
             postcard_get_u64(reader, &value->d.value);
-            if (value->d.value == 0) bad_message_(reader, start);
+            if (value->d.value == 0) bad_message_(reader, begin);
         }
     }
     {
-        size_t start = reader->at;
+        size_t begin = reader->at;
         value->e.low = value->e.high = 0;
         postcard_get_u128(reader, &value->e.low, &value->e.high);
-        if ((value->e.low | value->e.high) == 0) bad_message_(reader, start);
+        if ((value->e.low | value->e.high) == 0) bad_message_(reader, begin);
     }
+    forms_list_nonzero_u8_get(reader, &value->f);
+    forms_list2_nonzero_i64_get(reader, &value->g);
+    forms_result_nonzero_u16_u8_get(reader, &value->h);
+    Counted_get(reader, &value->i);
     return reader->status;
 }
 
@@ -1308,10 +1515,10 @@ postcard_status Arrays_get(postcard_reader *reader, Arrays *value) {
     }
     for (size_t i0 = 0; i0 < 2u; i0++) {
         {
-            size_t start = reader->at;
+            size_t begin = reader->at;
             value->g[i0] = 0;
             postcard_get_u16(reader, &value->g[i0]);
-            if (value->g[i0] == 0) bad_message_(reader, start);
+            if (value->g[i0] == 0) bad_message_(reader, begin);
         }
     }
     for (size_t i0 = 0; i0 < 2u; i0++) {

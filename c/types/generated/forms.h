@@ -235,6 +235,63 @@ typedef struct forms_option_nonzero_u64 { bool some; uint64_t value; } forms_opt
 postcard_status forms_option_nonzero_u64_put(postcard_writer *writer, const forms_option_nonzero_u64 *value);
 postcard_status forms_option_nonzero_u64_get(postcard_reader *reader, forms_option_nonzero_u64 *value);
 
+typedef struct forms_list_nonzero_u8 { size_t count; const uint8_t *items; postcard_slice encoded; } forms_list_nonzero_u8;
+postcard_status forms_list_nonzero_u8_put(postcard_writer *writer, const forms_list_nonzero_u8 *value);
+postcard_status forms_list_nonzero_u8_get(postcard_reader *reader, forms_list_nonzero_u8 *value);
+bool forms_list_nonzero_u8_next(postcard_reader *reader, uint8_t *item);
+static inline postcard_reader forms_list_nonzero_u8_reader(const forms_list_nonzero_u8 *value) {
+    return postcard_reader_over(value->encoded.bytes, value->encoded.size);
+}
+
+typedef struct forms_list2_nonzero_i64 { uint8_t count; int64_t items[2]; } forms_list2_nonzero_i64;
+postcard_status forms_list2_nonzero_i64_put(postcard_writer *writer, const forms_list2_nonzero_i64 *value);
+postcard_status forms_list2_nonzero_i64_get(postcard_reader *reader, forms_list2_nonzero_i64 *value);
+
+typedef struct forms_result_nonzero_u16_u8 { bool is_ok; union { uint16_t ok; uint8_t err; } as; } forms_result_nonzero_u16_u8;
+postcard_status forms_result_nonzero_u16_u8_put(postcard_writer *writer, const forms_result_nonzero_u16_u8 *value);
+postcard_status forms_result_nonzero_u16_u8_get(postcard_reader *reader, forms_result_nonzero_u16_u8 *value);
+
+typedef struct forms_option_nonzero_i64 { bool some; int64_t value; } forms_option_nonzero_i64;
+postcard_status forms_option_nonzero_i64_put(postcard_writer *writer, const forms_option_nonzero_i64 *value);
+postcard_status forms_option_nonzero_i64_get(postcard_reader *reader, forms_option_nonzero_i64 *value);
+
+typedef enum Counted_tag { /* the numbers of the variants in a message */
+    Counted_Off = 0,
+    Counted_On = 1,
+    Counted_Both = 2
+} Counted_tag;
+typedef struct Counted {
+    Counted_tag tag;
+    union {
+        int8_t on;
+        struct {
+            int32_t a;
+            forms_option_nonzero_i64 b;
+        } both;
+    } as;
+} Counted;
+postcard_status Counted_put(postcard_writer *writer, const Counted *value);
+postcard_status Counted_get(postcard_reader *reader, Counted *value);
+#define Counted_MAX_SIZE 17u
+static inline postcard_status Counted_encode(const Counted *value, void *message, size_t size, size_t *count) {
+    postcard_writer writer = postcard_writer_over(message, size);
+    Counted_put(&writer, value);
+    *count = writer.needed;
+    return writer.status;
+}
+static inline postcard_status Counted_decode(Counted *value, const void *message, size_t size) {
+    postcard_reader reader = postcard_reader_over(message, size);
+    if (Counted_get(&reader, value) == POSTCARD_OK && reader.at != reader.size) reader.status = POSTCARD_NO_VALUE;
+    return reader.status;
+}
+#define Counted_FRAME_SIZE POSTCARD_FRAME_SIZE(Counted_MAX_SIZE)
+static inline postcard_status Counted_frame(const Counted *value, uint8_t *frame, size_t size, size_t *count) {
+    uint8_t message[17];
+    size_t used = 0;
+    postcard_status status = Counted_encode(value, message, sizeof message, &used);
+    return status == POSTCARD_OK ? postcard_cobs_encode(message, used, frame, size, count) : status;
+}
+
 /* Numbers without 0. */
 typedef struct NonZeros {
     uint8_t a;
@@ -242,10 +299,14 @@ typedef struct NonZeros {
     uint32_t c;
     forms_option_nonzero_u64 d;
     postcard_u128 e;
+    forms_list_nonzero_u8 f;
+    forms_list2_nonzero_i64 g;
+    forms_result_nonzero_u16_u8 h;
+    Counted i;
 } NonZeros;
 postcard_status NonZeros_put(postcard_writer *writer, const NonZeros *value);
 postcard_status NonZeros_get(postcard_reader *reader, NonZeros *value);
-#define NonZeros_MAX_SIZE 39u
+/* NonZeros has no greatest size, since a text, a list or a map has no capacity. */
 static inline postcard_status NonZeros_encode(const NonZeros *value, void *message, size_t size, size_t *count) {
     postcard_writer writer = postcard_writer_over(message, size);
     NonZeros_put(&writer, value);
@@ -256,13 +317,6 @@ static inline postcard_status NonZeros_decode(NonZeros *value, const void *messa
     postcard_reader reader = postcard_reader_over(message, size);
     if (NonZeros_get(&reader, value) == POSTCARD_OK && reader.at != reader.size) reader.status = POSTCARD_NO_VALUE;
     return reader.status;
-}
-#define NonZeros_FRAME_SIZE POSTCARD_FRAME_SIZE(NonZeros_MAX_SIZE)
-static inline postcard_status NonZeros_frame(const NonZeros *value, uint8_t *frame, size_t size, size_t *count) {
-    uint8_t message[39];
-    size_t used = 0;
-    postcard_status status = NonZeros_encode(value, message, sizeof message, &used);
-    return status == POSTCARD_OK ? postcard_cobs_encode(message, used, frame, size, count) : status;
 }
 
 /* A text of at most 255 bytes of UTF-8. Reading puts a NUL after it. */

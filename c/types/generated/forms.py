@@ -111,18 +111,60 @@ class Widths(_p.Message):
 Widths._codec = _c.record(Widths, ['a', 'b', 'c', 'd', 'e', 'f', 'g', 'h', 'i', 'j', 'k', 'l', 'm', 'n', 'o', 'p', 'q', 'r'], _n.fixed(2, "little", False), _n.fixed(4, "little", False), _n.fixed(8, "little", False), _n.fixed(16, "little", False), _n.fixed(2, "little", True), _n.fixed(4, "little", True), _n.fixed(8, "little", True), _n.fixed(16, "little", True), _n.fixed(2, "big", False), _n.fixed(4, "big", False), _n.fixed(8, "big", False), _n.fixed(16, "big", False), _n.fixed(2, "big", True), _n.fixed(4, "big", True), _n.fixed(8, "big", True), _n.fixed(16, "big", True), _n.fixed(8, "little", False), _n.fixed(16, "big", True))
 
 
+class Counted(_p.Message):
+    __slots__ = ()
+    Off: _t.ClassVar[_t.Type[Counted_Off]]
+    On: _t.ClassVar[_t.Type[Counted_On]]
+    Both: _t.ClassVar[_t.Type[Counted_Both]]
+
+
+@_dataclass
+class Counted_Off(Counted):
+    __slots__ = ()
+
+
+@_dataclass
+class Counted_On(Counted):
+    __slots__ = ("_0",)
+    _0: int
+
+
+@_dataclass
+class Counted_Both(Counted):
+    __slots__ = ("a", "b",)
+    a: int
+    b: _t.Optional[int]
+
+
+Counted.Off = Counted_Off
+Counted_Off.__qualname__ = "Counted.Off"
+Counted.On = Counted_On
+Counted_On.__qualname__ = "Counted.On"
+Counted.Both = Counted_Both
+Counted_Both.__qualname__ = "Counted.Both"
+Counted._codec = _c.variants([Counted_Off, Counted_On, Counted_Both], [
+    _c.record(Counted_Off, []),
+    _c.record(Counted_On, ['_0'], _n.nonzero(_n.signed(8))),
+    _c.record(Counted_Both, ['a', 'b'], _n.nonzero(_n.signed(32)), _c.option(_n.nonzero(_n.signed(64)), False)),
+])
+
+
 @_dataclass
 class NonZeros(_p.Message):
     """Numbers without 0."""
-    __slots__ = ("a", "b", "c", "d", "e",)
+    __slots__ = ("a", "b", "c", "d", "e", "f", "g", "h", "i",)
     a: int
     b: int
     c: int
     d: _t.Optional[int]
     e: int
+    f: _t.List[int]
+    g: _t.List[int]
+    h: _t.Union[_p.Ok, _p.Err]
+    i: Counted
 
 
-NonZeros._codec = _c.record(NonZeros, ['a', 'b', 'c', 'd', 'e'], _n.nonzero(_n.unsigned(8)), _n.nonzero(_n.signed(16)), _n.nonzero(_n.unsigned(32)), _c.option(_n.nonzero(_n.unsigned(64)), False), _n.nonzero(_n.unsigned(128)))
+NonZeros._codec = _c.record(NonZeros, ['a', 'b', 'c', 'd', 'e', 'f', 'g', 'h', 'i'], _n.nonzero(_n.unsigned(8)), _n.nonzero(_n.signed(16)), _n.nonzero(_n.unsigned(32)), _c.option(_n.nonzero(_n.unsigned(64)), False), _n.nonzero(_n.unsigned(128)), _c.sequence(_n.nonzero(_n.unsigned(8)), None), _c.sequence(_n.nonzero(_n.signed(64)), 2), _c.result(_n.nonzero(_n.unsigned(16)), _n.unsigned(8)), Counted._codec)
 
 
 @_dataclass
