@@ -44,7 +44,9 @@ static size_t text_at(size_t at, size_t end) {
     size_t size = code < 0x80 ? 1 : code < 0x800 ? 2 : code < 0x10000 ? 3 : 4;
     static const uint8_t first[] = {0, 0, 0xC0, 0xE0, 0xF0};
     for (size_t i = size; size > 1 && i-- > 0; code >>= 6) unit[i] = (uint8_t)(i ? 0x80 | (code & 63) : first[size] | code);
-    if (below(300) == 0) unit[below(size)] ^= (uint8_t)(1u << below(8));
+    static const uint8_t edges[] = {0x7F, 0x80, 0x8F, 0x90, 0x9F, 0xA0, 0xBF, 0xC0, 0xC1, 0xC2, 0xDF, 0xE0, 0xED, 0xEF, 0xF0, 0xF4, 0xF5, 0xFF};
+    if (below(200) == 0) unit[below(size)] ^= (uint8_t)(1u << below(8));
+    if (below(100) == 0) unit[below(size)] = edges[below(sizeof edges)];
     for (size_t i = 0; i < size && at < end; i++) bytes[at++] = unit[i];
     return at;
 }
