@@ -37,6 +37,12 @@ static uint64_t number(void) {
     }
 }
 
+/* Bytes beside the ends of the ranges that UTF-8 and varints have. */
+static uint8_t edge(void) {
+    static const uint8_t edges[] = {0x7F, 0x80, 0x8F, 0x90, 0x9F, 0xA0, 0xBF, 0xC0, 0xC1, 0xC2, 0xDF, 0xE0, 0xED, 0xEF, 0xF0, 0xF4, 0xF5, 0xFF};
+    return edges[below(sizeof edges)];
+}
+
 /* Appends the UTF-8 of a scalar value, or of a number that is none. */
 static size_t text_at(size_t at, size_t end) {
     uint32_t code = (uint32_t)(below(0x110800) >> below(21));
@@ -44,7 +50,8 @@ static size_t text_at(size_t at, size_t end) {
     size_t size = code < 0x80 ? 1 : code < 0x800 ? 2 : code < 0x10000 ? 3 : 4;
     static const uint8_t first[] = {0, 0, 0xC0, 0xE0, 0xF0};
     for (size_t i = size; size > 1 && i-- > 0; code >>= 6) unit[i] = (uint8_t)(i ? 0x80 | (code & 63) : first[size] | code);
-    if (below(300) == 0) unit[below(size)] ^= (uint8_t)(1u << below(8));
+    if (below(200) == 0) unit[below(size)] ^= (uint8_t)(1u << below(8));
+    if (below(100) == 0) unit[below(size)] = edge();
     for (size_t i = 0; i < size && at < end; i++) bytes[at++] = unit[i];
     return at;
 }
@@ -153,6 +160,24 @@ static void read_some(void) {
     }
 }
 
+/* Short strings of which one byte is often beside the end of a range, written, and read as a string and as a `char`. */
+static void text_some(void) {
+    size_t end = 1;
+    while (end < 40 && below(3)) end = text_at(end, 40);
+    if (end > 1 && below(2)) bytes[1 + below(end - 1)] = edge();
+    postcard_writer a = postcard_writer_over(ours, ROOM), b = postcard_writer_over(theirs, ROOM);
+    require(archive_put_str(&a, 0, 0, end) == source_put_str(&b, 0, 0, end) && a.used == b.used, "a string of any bytes");
+    bytes[0] = (uint8_t)(end - 1);
+    for (int i = 0; i < 2; i++, calls++) {
+        postcard_reader r = postcard_reader_over(bytes, end), s = r;
+        uint64_t x[2] = {1, 1}, y[2] = {1, 1};
+        postcard_slice lent = {bytes, 0}, same = lent;
+        get *const *pair = (get *const[2][2]){G(str), G(char)}[i];
+        require(pair[0](&r, x, &lent, 0) == pair[1](&s, y, &same, 0) && r.at == s.at && r.status == s.status, "a string");
+        require(x[0] == y[0] && lent.bytes == same.bytes && lent.size == same.size, "what a string is");
+    }
+}
+
 /* Frames of random bytes, and random bytes as frames. What a failed call leaves in its buffer is no part of its contract. */
 static void frame_some(void) {
     size_t size = (size_t)(below(3) ? below(40) : below(ROOM)), a = 7, b = 7;
@@ -197,7 +222,7 @@ int main(int count, char **words) {
     uint64_t wanted = count > 1 ? strtoull(words[1], NULL, 10) : 1000000;
     if (count > 2) state ^= strtoull(words[2], NULL, 10) * 0xD1342543DE82EF95u;
     while (calls < wanted) {
-        for (int i = 0; i < 4; i++) write_some(), read_some(), frame_some();
+        for (int i = 0; i < 4; i++) write_some(), read_some(), text_some(), frame_some();
         feed_some();
     }
     return puts("random calls on source and archive: all the same") < 0;

@@ -100,6 +100,7 @@ static void values(void) {
     SAME(tables, (a));
     SAME(turned, (a));
     SAME(crossed, (a, b));
+    SAME(circled, (times, a, b));
     SAME(chained, (times, a, b));
     SAME(changed, (a, b));
     SAME(walked, (a, b));

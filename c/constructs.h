@@ -47,6 +47,7 @@ uint64_t turned(uint64_t n);
 uint64_t replaced(uint64_t *n, uint64_t by);
 uint64_t lanes(const uint8_t *bytes, size_t size);
 uint64_t crossed(uint64_t a, uint64_t b);
+uint64_t circled(uint8_t count, uint64_t a, uint64_t b);
 uint64_t chained(uint8_t count, uint64_t a, uint64_t b);
 uint64_t changed(uint64_t a, uint64_t b);
 uint64_t walked(uint64_t path, uint64_t most);

@@ -36,6 +36,19 @@ pub extern "C" fn crossed(a: u64, b: u64) -> u64 {
     first ^ (two.left >> 3) ^ (two.right << 1)
 }
 
+/// Returns the fields of a struct after each was assigned the other several times.
+#[unsafe(no_mangle)]
+pub extern "C" fn circled(count: u8, a: u64, b: u64) -> u64 {
+    let mut two = Two { left: a, right: b };
+    for _ in 0..count {
+        two = Two {
+            left: two.right ^ 5,
+            right: two.left,
+        };
+    }
+    two.left ^ (two.right << 11)
+}
+
 /// Returns a sum over values of which each is made of the last, and used after it has changed.
 #[unsafe(no_mangle)]
 pub extern "C" fn chained(count: u8, a: u64, b: u64) -> u64 {
