@@ -1,6 +1,6 @@
 //! The schemas of parts in a row, as which tuples are written.
 
-ghost use Rattle.std.specs.Prelude.{◌≡◌, ◌++◌, map, IfErr, IfOk, OnOk};
+ghost use Rattle.std.specs.Prelude.{◌≡◌, ◌++◌, [], map, IfErr, IfOk, OnOk};
 ghost use Rattle.postcard_described.specs.{end_same, group, group_same, no_parts, of_parts, part_then};
 ghost use Rattle.postcard_described.specs.{row_of, then_same, type_of};
 ghost use Rattle.postcard_described.specs.Described.{RowDescribed};
@@ -59,6 +59,22 @@ pub fn parts_schema<P: SchemaParts>(alloc: Global, names: &[&str]) -> Result<Sch
 {
     let mut parts = Vec::new(alloc);
     P::push_parts(alloc, &mut parts)?;
+    group_schema(alloc, names, parts)
+}
+
+/// Returns the schema of two tuples in a row: that of the parts of both, with these names. A struct
+/// of many fields is written in this way.
+pub fn joined_schema<P: SchemaParts, Q: SchemaParts>(
+    alloc: Global,
+    names: &[&str],
+) -> Result<Schema>
+    ensures typed { IfOk result (λ schema.
+        type_of schema ≡ group (row_of (P.described.messages ++ (Q.described.messages ++ [])))) }
+    ensures only_out_of_memory { IfErr result (λ e. e ≡ Error.OutOfMemory) }
+{
+    let mut parts = Vec::new(alloc);
+    P::push_parts(alloc, &mut parts)?;
+    Q::push_parts(alloc, &mut parts)?;
     group_schema(alloc, names, parts)
 }
 
