@@ -4,6 +4,7 @@ pub mod Within
 pub mod Sets
 pub mod Described
 pub mod Messages
+pub mod Names
 -- The words that clauses of this crate cite, under one path.
 pub use Rattle.postcard_wire.specs.Spelling.{Spells, canonical}
 pub use Rattle.postcard_shape.specs.Leaves.{short_text_inside}
@@ -22,3 +23,5 @@ pub use Rattle.postcard_described.specs.Sets.{variants_same}
 pub use Rattle.postcard_described.specs.Described.{case_then, no_cases, no_parts, of_array, of_cases}
 pub use Rattle.postcard_described.specs.Described.{of_few, of_integer, of_leaf, of_option, of_parts, of_result}
 pub use Rattle.postcard_described.specs.Described.{flat_then, of_seq, of_some, part_then}
+pub use Rattle.postcard_described.specs.Names.{HasFields, HasVariants, first_text, names_of, text_of}
+pub use Rattle.postcard_schema.specs.declared.schema.Schema.{Schema}

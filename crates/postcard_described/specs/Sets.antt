@@ -8,7 +8,7 @@ use Rattle.postcard_shape.specs.Options.{ResultReads}
 use Rattle.postcard_shape.specs.Lists.{IsFewSeq}
 use Rattle.postcard_schema.specs.Meaning.{MessageType, MessageTypes, no_types, then_type, row_of, reads, reads_all, reads_at}
 use Rattle.postcard_described.specs.SameBytes.{SameBytes, SameRow, same_tree, same_row, same_present, same_variant, same_group, same_seq, same_then, row_after, join, splice}
-use Rattle.postcard_described.specs.Within.{Covered, RowCovered, Within, RowWithin, Same, alike, itself, row_itself, some_of}
+use Rattle.postcard_described.specs.Within.{Covered, RowCovered, Within, RowWithin, Same, alike, row_itself, some_of}
 
 option_covered : {F G : Tree → Type 0} → Covered F G → Covered (IsOption F) (IsOption G)
 option_covered h t (inl e) = (t, inl e, same_tree t)

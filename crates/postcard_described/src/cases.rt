@@ -1,8 +1,9 @@
 //! The schemas of variants in a row, as which enums are written.
 
-ghost use Rattle.std.specs.Prelude.{◌≡◌, ◌++◌, ℕ, map, IfErr, IfOk, OnOk};
+ghost use Rattle.std.specs.Prelude.{◌≡◌, ◌++◌, ℕ, length, map, IfErr, IfOk, OnOk};
 ghost use Rattle.postcard_described.specs.{alike, case_same, case_then, choice, contents, no_cases};
-ghost use Rattle.postcard_described.specs.{of_cases, row_of, type_of, variants_same};
+ghost use Rattle.postcard_described.specs.{HasVariants, first_text, names_of, of_cases, row_of};
+ghost use Rattle.postcard_described.specs.{type_of, variants_same};
 ghost use Rattle.postcard_described.specs.Described.{CasesDescribed};
 ghost use Rattle.postcard_described.specs.Within.{Same};
 
@@ -30,6 +31,8 @@ pub trait SchemaCases: Cased {
     ) -> Result<()>
         ensures added { OnOk result (map type_of (contents variants.new.items)
             ≡ map type_of (contents variants.old.items) ++ described.messages) }
+        ensures named { length names.now ≡ length described.messages → OnOk result
+            (names_of variants.new.items ≡ names_of variants.old.items ++ map first_text names.now) }
         ensures only_out_of_memory { IfErr result (λ e. e ≡ Error.OutOfMemory) };
 
     ghost same: { (i : ℕ) → Same (Self.cases.reads i) (described.has i) };
@@ -79,6 +82,8 @@ impl<A: HasSchema, R: SchemaCases> SchemaCases for Case<A, R> {
 pub fn enum_schema<C: SchemaCases>(alloc: Global, names: &[VariantName<'_>]) -> Result<Schema>
     ensures typed { IfOk result (λ schema. type_of schema
         ≡ choice (row_of C.described.messages)) }
+    ensures named { length names.now ≡ length C.described.messages
+        → IfOk result (HasVariants names.now) }
     ensures only_out_of_memory { IfErr result (λ e. e ≡ Error.OutOfMemory) }
 {
     let mut variants = Vec::new(alloc);

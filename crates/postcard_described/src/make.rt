@@ -1,8 +1,9 @@
 //! Schemas made of schemas. Each function fails with `OutOfMemory` if an allocation fails.
 
-ghost use Rattle.std.specs.Prelude.{◌≡◌, ◌++◌, ◌∷◌, [], map, IfErr, IfOk, OnOk};
+ghost use Rattle.std.specs.Prelude.{◌≡◌, ◌<◌, ◌++◌, ◌∷◌, [], get_or, length, map, IfErr, IfOk};
+ghost use Rattle.std.specs.Prelude.{OnOk};
 ghost use Rattle.postcard_described.specs.{array, choice, contents, entry_of, group, option, seq};
-ghost use Rattle.postcard_described.specs.{type_of, types_of};
+ghost use Rattle.postcard_described.specs.{HasFields, Schema, names_of, text_of, type_of, types_of};
 
 use postcard_schema::{Named, Schema};
 use postcard_wire::{Error, Result};
@@ -60,6 +61,8 @@ pub fn array_schema(alloc: Global, element: Schema, count: usize) -> Result<Sche
 #[tactic(auto, using(postcard_schema::specs::Lemmas::type_of_tuple, postcard_schema::specs::Lemmas::type_of_struct))]
 pub fn group_schema(alloc: Global, names: &[&str], parts: Vec<Schema>) -> Result<Schema>
     ensures typed { IfOk result (λ schema. type_of schema ≡ group (types_of parts.items)) }
+    ensures named { 0 < length names.now → length names.now ≡ length parts.items
+        → IfOk result (HasFields names.now) }
     ensures only_out_of_memory { IfErr result (λ e. e ≡ Error.OutOfMemory) }
 {
     if names.is_empty() || names.len() != parts.len() {
@@ -71,20 +74,32 @@ pub fn group_schema(alloc: Global, names: &[&str], parts: Vec<Schema>) -> Result
 /// Returns the schemas with these names, of which there are as many.
 fn with_names(alloc: Global, names: &[&str], parts: Vec<Schema>) -> Result<Vec<Named<Schema>>>
     ensures parts { IfOk result (λ fields. contents fields.items ≡ parts.items) }
+    ensures named { length names.now ≡ length parts.items
+        → IfOk result (λ fields. names_of fields.items ≡ map text_of names.now) }
     ensures only_out_of_memory { IfErr result (λ e. e ≡ Error.OutOfMemory) }
 {
     let mut fields = Vec::new(alloc);
     for part in parts {
-        let name = names.get(fields.len()).copied().unwrap_or("");
-        push_named(alloc, name, part, &mut fields)?;
+        push_named(alloc, name_at(names, fields.len()), part, &mut fields)?;
     }
     Ok(fields)
+}
+
+/// Returns the name at an index, or an empty name past the last.
+fn name_at<'a>(names: &[&'a str], index: usize) -> &'a str
+    ensures { index < length names.now → result.now ≡ get_or (map text_of names.now) index [] }
+{
+    match names.get(index) {
+        Some(name) => name,
+        None => "",
+    }
 }
 
 /// Returns the schema of an enum of these variants.
 #[tactic(auto, using(postcard_schema::specs::Lemmas::type_of_enum))]
 pub fn choice_schema(variants: Vec<Named<Schema>>) -> Schema
-    ensures { type_of result ≡ choice (types_of (contents variants.items)) }
+    ensures typed { type_of result ≡ choice (types_of (contents variants.items)) }
+    ensures same { result ≡ Schema.Enum variants }
 {
     Schema::Enum(variants)
 }
@@ -101,7 +116,7 @@ pub fn push<T: Drop>(item: T, items: &mut Vec<T>) -> Result<()>
 }
 
 /// Appends a schema with this name.
-#[tactic(auto, using(postcard_schema::specs::Lemmas::contents_append))]
+#[tactic(auto, using(postcard_schema::specs::Lemmas::contents_append, crate::specs::Names::names_append))]
 pub fn push_named(
     alloc: Global,
     name: &str,
@@ -109,6 +124,7 @@ pub fn push_named(
     all: &mut Vec<Named<Schema>>,
 ) -> Result<()>
     ensures added { OnOk result (contents all.new.items ≡ contents all.old.items ++ content ∷ []) }
+    ensures named { OnOk result (names_of all.new.items ≡ names_of all.old.items ++ name.now ∷ []) }
     ensures only_out_of_memory { IfErr result (λ e. e ≡ Error.OutOfMemory) }
 {
     let name = String::from_str(alloc, name)?;

@@ -1,8 +1,8 @@
 //! The schemas of parts in a row, as which tuples are written.
 
-ghost use Rattle.std.specs.Prelude.{◌≡◌, ◌++◌, [], map, IfErr, IfOk, OnOk};
+ghost use Rattle.std.specs.Prelude.{◌≡◌, ◌<◌, ◌+◌, ◌++◌, [], length, map, IfErr, IfOk, OnOk};
 ghost use Rattle.postcard_described.specs.{end_same, group, group_same, no_parts, of_parts, part_then};
-ghost use Rattle.postcard_described.specs.{row_of, then_same, type_of};
+ghost use Rattle.postcard_described.specs.{HasFields, row_of, then_same, type_of};
 ghost use Rattle.postcard_described.specs.Described.{RowDescribed};
 ghost use Rattle.postcard_described.specs.Within.{Same};
 
@@ -51,15 +51,17 @@ impl<A: HasSchema, R: SchemaParts> SchemaParts for Part<A, R> {
     ghost same = { then_same A.same R.same };
 }
 
-/// Returns the schema of parts in a row: of a struct if there is a name for each, and else of a
-/// tuple.
+/// Returns the schema of parts in a row: of a struct with these names if there is a name for each,
+/// and else of a tuple.
 pub fn parts_schema<P: SchemaParts>(alloc: Global, names: &[&str]) -> Result<Schema>
     ensures typed { IfOk result (λ schema. type_of schema ≡ group (row_of P.described.messages)) }
+    ensures named { 0 < length names.now → length names.now ≡ length P.described.messages
+        → IfOk result (HasFields names.now) }
     ensures only_out_of_memory { IfErr result (λ e. e ≡ Error.OutOfMemory) }
 {
-    let mut parts = Vec::new(alloc);
-    P::push_parts(alloc, &mut parts)?;
-    group_schema(alloc, names, parts)
+    let mut row = Vec::new(alloc);
+    P::push_parts(alloc, &mut row)?;
+    group_schema(alloc, names, row)
 }
 
 /// Returns the schema of two tuples in a row: that of the parts of both, with these names. A struct
@@ -70,6 +72,9 @@ pub fn joined_schema<P: SchemaParts, Q: SchemaParts>(
 ) -> Result<Schema>
     ensures typed { IfOk result (λ schema.
         type_of schema ≡ group (row_of (P.described.messages ++ (Q.described.messages ++ [])))) }
+    ensures named { 0 < length names.now
+        → length names.now ≡ length P.described.messages + length Q.described.messages
+        → IfOk result (HasFields names.now) }
     ensures only_out_of_memory { IfErr result (λ e. e ≡ Error.OutOfMemory) }
 {
     let mut parts = Vec::new(alloc);

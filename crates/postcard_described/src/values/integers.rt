@@ -61,8 +61,8 @@ impl HasSchema for u128 {
 impl HasSchema for usize {
     ghost described = { of_integer integers.U64 };
 
-    fn schema_with(_alloc: Global, _names: &[&str]) -> Result<Schema> {
-        Ok(Schema::Leaf(Leaf::Integer(Integer::U64)))
+    fn schema_with(alloc: Global, _names: &[&str]) -> Result<Schema> {
+        u64::schema(alloc)
     }
 
     ghost same = { alike };
@@ -121,8 +121,8 @@ impl HasSchema for i128 {
 impl HasSchema for isize {
     ghost described = { of_integer integers.I64 };
 
-    fn schema_with(_alloc: Global, _names: &[&str]) -> Result<Schema> {
-        Ok(Schema::Leaf(Leaf::Integer(Integer::I64)))
+    fn schema_with(alloc: Global, _names: &[&str]) -> Result<Schema> {
+        i64::schema(alloc)
     }
 
     ghost same = { alike };

@@ -8,7 +8,7 @@ ghost use Rattle.postcard_wire.specs.Reading.{IsByte, IsInt, IsNum};
 ghost use Rattle.postcard_wire.specs.Tree.{Byte, Int, Num};
 
 use crate::schema::HasSchema;
-use postcard_schema::{Integer, Leaf, Schema};
+use postcard_schema::Schema;
 use postcard_wire::Result;
 use std::alloc::Global;
 use std::num::{
@@ -19,8 +19,8 @@ use std::num::{
 impl HasSchema for NonZeroU8 {
     ghost described = { of_some (Without (Byte 0) IsByte) (of_integer integers.U8) (λ t r. r.0) };
 
-    fn schema_with(_alloc: Global, _names: &[&str]) -> Result<Schema> {
-        Ok(Schema::Leaf(Leaf::Integer(Integer::U8)))
+    fn schema_with(alloc: Global, _names: &[&str]) -> Result<Schema> {
+        u8::schema(alloc)
     }
 
     ghost same = { alike };
@@ -29,8 +29,8 @@ impl HasSchema for NonZeroU8 {
 impl HasSchema for NonZeroU16 {
     ghost described = { of_some (Without (Num 16 0) (IsNum 16)) (of_integer integers.U16) (λ t r. r.0) };
 
-    fn schema_with(_alloc: Global, _names: &[&str]) -> Result<Schema> {
-        Ok(Schema::Leaf(Leaf::Integer(Integer::U16)))
+    fn schema_with(alloc: Global, _names: &[&str]) -> Result<Schema> {
+        u16::schema(alloc)
     }
 
     ghost same = { alike };
@@ -39,8 +39,8 @@ impl HasSchema for NonZeroU16 {
 impl HasSchema for NonZeroU32 {
     ghost described = { of_some (Without (Num 32 0) (IsNum 32)) (of_integer integers.U32) (λ t r. r.0) };
 
-    fn schema_with(_alloc: Global, _names: &[&str]) -> Result<Schema> {
-        Ok(Schema::Leaf(Leaf::Integer(Integer::U32)))
+    fn schema_with(alloc: Global, _names: &[&str]) -> Result<Schema> {
+        u32::schema(alloc)
     }
 
     ghost same = { alike };
@@ -49,8 +49,8 @@ impl HasSchema for NonZeroU32 {
 impl HasSchema for NonZeroU64 {
     ghost described = { of_some (Without (Num 64 0) (IsNum 64)) (of_integer integers.U64) (λ t r. r.0) };
 
-    fn schema_with(_alloc: Global, _names: &[&str]) -> Result<Schema> {
-        Ok(Schema::Leaf(Leaf::Integer(Integer::U64)))
+    fn schema_with(alloc: Global, _names: &[&str]) -> Result<Schema> {
+        u64::schema(alloc)
     }
 
     ghost same = { alike };
@@ -59,8 +59,8 @@ impl HasSchema for NonZeroU64 {
 impl HasSchema for NonZeroU128 {
     ghost described = { of_some (Without (Num 128 0) (IsNum 128)) (of_integer integers.U128) (λ t r. r.0) };
 
-    fn schema_with(_alloc: Global, _names: &[&str]) -> Result<Schema> {
-        Ok(Schema::Leaf(Leaf::Integer(Integer::U128)))
+    fn schema_with(alloc: Global, _names: &[&str]) -> Result<Schema> {
+        u128::schema(alloc)
     }
 
     ghost same = { alike };
@@ -69,8 +69,8 @@ impl HasSchema for NonZeroU128 {
 impl HasSchema for NonZeroUsize {
     ghost described = { of_some (Without (Num 64 0) (IsNum 64)) (of_integer integers.U64) (λ t r. r.0) };
 
-    fn schema_with(_alloc: Global, _names: &[&str]) -> Result<Schema> {
-        Ok(Schema::Leaf(Leaf::Integer(Integer::U64)))
+    fn schema_with(alloc: Global, _names: &[&str]) -> Result<Schema> {
+        usize::schema(alloc)
     }
 
     ghost same = { alike };
@@ -79,8 +79,8 @@ impl HasSchema for NonZeroUsize {
 impl HasSchema for NonZeroI8 {
     ghost described = { of_some (Without (Byte 0) IsByte) (of_integer integers.I8) (λ t r. r.0) };
 
-    fn schema_with(_alloc: Global, _names: &[&str]) -> Result<Schema> {
-        Ok(Schema::Leaf(Leaf::Integer(Integer::I8)))
+    fn schema_with(alloc: Global, _names: &[&str]) -> Result<Schema> {
+        i8::schema(alloc)
     }
 
     ghost same = { alike };
@@ -89,8 +89,8 @@ impl HasSchema for NonZeroI8 {
 impl HasSchema for NonZeroI16 {
     ghost described = { of_some (Without (Int 16 (pos 0)) (IsInt 16)) (of_integer integers.I16) (λ t r. r.0) };
 
-    fn schema_with(_alloc: Global, _names: &[&str]) -> Result<Schema> {
-        Ok(Schema::Leaf(Leaf::Integer(Integer::I16)))
+    fn schema_with(alloc: Global, _names: &[&str]) -> Result<Schema> {
+        i16::schema(alloc)
     }
 
     ghost same = { alike };
@@ -99,8 +99,8 @@ impl HasSchema for NonZeroI16 {
 impl HasSchema for NonZeroI32 {
     ghost described = { of_some (Without (Int 32 (pos 0)) (IsInt 32)) (of_integer integers.I32) (λ t r. r.0) };
 
-    fn schema_with(_alloc: Global, _names: &[&str]) -> Result<Schema> {
-        Ok(Schema::Leaf(Leaf::Integer(Integer::I32)))
+    fn schema_with(alloc: Global, _names: &[&str]) -> Result<Schema> {
+        i32::schema(alloc)
     }
 
     ghost same = { alike };
@@ -109,8 +109,8 @@ impl HasSchema for NonZeroI32 {
 impl HasSchema for NonZeroI64 {
     ghost described = { of_some (Without (Int 64 (pos 0)) (IsInt 64)) (of_integer integers.I64) (λ t r. r.0) };
 
-    fn schema_with(_alloc: Global, _names: &[&str]) -> Result<Schema> {
-        Ok(Schema::Leaf(Leaf::Integer(Integer::I64)))
+    fn schema_with(alloc: Global, _names: &[&str]) -> Result<Schema> {
+        i64::schema(alloc)
     }
 
     ghost same = { alike };
@@ -119,8 +119,8 @@ impl HasSchema for NonZeroI64 {
 impl HasSchema for NonZeroI128 {
     ghost described = { of_some (Without (Int 128 (pos 0)) (IsInt 128)) (of_integer integers.I128) (λ t r. r.0) };
 
-    fn schema_with(_alloc: Global, _names: &[&str]) -> Result<Schema> {
-        Ok(Schema::Leaf(Leaf::Integer(Integer::I128)))
+    fn schema_with(alloc: Global, _names: &[&str]) -> Result<Schema> {
+        i128::schema(alloc)
     }
 
     ghost same = { alike };
@@ -129,8 +129,8 @@ impl HasSchema for NonZeroI128 {
 impl HasSchema for NonZeroIsize {
     ghost described = { of_some (Without (Int 64 (pos 0)) (IsInt 64)) (of_integer integers.I64) (λ t r. r.0) };
 
-    fn schema_with(_alloc: Global, _names: &[&str]) -> Result<Schema> {
-        Ok(Schema::Leaf(Leaf::Integer(Integer::I64)))
+    fn schema_with(alloc: Global, _names: &[&str]) -> Result<Schema> {
+        isize::schema(alloc)
     }
 
     ghost same = { alike };
