@@ -25,7 +25,8 @@ impl<K: HasSchema + Eq + Hash, V: HasSchema, S: BuildHasher> HasSchema for HashM
     ghost described = { of_seq (of_parts (part_then K.described (part_then V.described no_parts))) };
 
     fn schema_with(alloc: Global, _names: &[&str]) -> Result<Schema> {
-        map_schema(alloc, K::schema(alloc)?, V::schema(alloc)?)
+        let key = K::schema(alloc)?;
+        map_schema(alloc, key, V::schema(alloc)?)
     }
 
     ghost same = { seq_same (group_same (then_same K.same (then_same V.same end_same))) };

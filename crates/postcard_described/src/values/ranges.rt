@@ -27,7 +27,7 @@ impl<T: HasSchema> HasSchema for RangeInclusive<T> {
     ghost described = { of_parts (part_then T.described (part_then T.described no_parts)) };
 
     fn schema_with(alloc: Global, _names: &[&str]) -> Result<Schema> {
-        parts_schema::<Part<T, Part<T, ()>>>(alloc, &["start", "end"])
+        <Range<T>>::schema(alloc)
     }
 
     ghost same = { group_same (then_same T.same (then_same T.same end_same)) };

@@ -34,7 +34,7 @@ impl HasSchema for SystemTime {
         (λ t r. span_parts t r.0) };
 
     fn schema_with(alloc: Global, _names: &[&str]) -> Result<Schema> {
-        parts_schema::<Part<u64, Part<u32, ()>>>(alloc, &["secs_since_epoch", "nanos_since_epoch"])
+        <(u64, u32)>::schema_with(alloc, &["secs_since_epoch", "nanos_since_epoch"])
     }
 
     ghost same = { alike };
