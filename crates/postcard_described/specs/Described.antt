@@ -1,14 +1,17 @@
 -- What a schema says of a type: the type of its messages, and how its trees and those that are read are tied.
-use Rattle.std.specs.Prelude.{ℕ, ⊤, List, [], ◌∷◌, ◌++◌}
+use Rattle.std.specs.Prelude.{ℕ, zero, suc, ◌<◌, ⊤, List, [], ◌∷◌, ◌++◌}
 use Rattle.postcard_wire.specs.Tree.{Tree, Trees}
 use Rattle.postcard_wire.specs.Reading.{IsOption, IsSeq, IsArray, IsThen, IsGroup, IsVariant, IsEnd}
 use Rattle.postcard_shape.specs.Cases.{case_reads}
+use Rattle.std.proofs.Common.{◌≡◌, refl, ap, arith}
+use Rattle.postcard_shape.specs.Enumerations.{IsUnit}
 use Rattle.postcard_shape.specs.Lists.{IsFewSeq}
 use Rattle.postcard_shape.specs.Options.{ResultReads}
 use Rattle.postcard_schema.specs.declared.leaf.Integer.{Integer}
 use Rattle.postcard_schema.specs.declared.leaf.Leaf.{Leaf}
 use Rattle.postcard_schema.specs.declared.leaf.Leaf.TheVariants as leaves
-use Rattle.postcard_schema.specs.Meaning.{MessageType, leaf, option, seq, array, group, choice, row_of, integer_reads, leaf_reads, reads, reads_all, reads_at}
+use Rattle.postcard_schema.specs.Meaning.{MessageType, leaf, option, seq, array, group, choice, no_types, row_of, integer_reads, leaf_reads, reads, reads_all, reads_at}
+use Rattle.postcard_described.specs.SameBytes.{same_tree}
 use Rattle.postcard_described.specs.Within.{Within, RowWithin, itself, some_within}
 use Rattle.postcard_described.specs.Sets.{option_within, seq_within, few_within, array_within, end_within, then_within, group_within, case_within, result_within, variants_within, flat_within}
 
@@ -86,3 +89,29 @@ of_cases r = record { has = IsVariant r.has; message = choice (row_of r.messages
 
 abbrev pub of_result : Described → Described → Described
 of_result d e = record { has = IsVariant (ResultReads d.has e.has); message = choice (row_of (d.message ∷ e.message ∷ [])); exact = d.exact × e.exact; within = variants_within (result_within d.message e.message d.within e.within) }
+
+-- The unit, n times.
+abbrev pub units : ℕ → List MessageType
+units zero = []
+units (suc n) = group no_types ∷ units n
+
+pub units_next : (n : ℕ) → units (suc n) ≡ units n ++ group no_types ∷ []
+units_next zero = refl
+units_next (suc n) = ap (λ ts. group no_types ∷ ts) (units_next n)
+
+unit_there : (n i : ℕ) (t : Tree) → IsUnit n i t → reads_at (row_of (units n)) i t
+unit_there zero i t r = absurd (omega (arith, r.0))
+unit_there (suc n) zero t r = r.1
+unit_there (suc n) (suc i) t r = unit_there n i t (omega (arith, r.0), r.1)
+
+unit_back : (n i : ℕ) (t : Tree) → reads_at (row_of (units n)) i t → IsUnit n i t
+unit_back zero i t r = absurd r
+unit_back (suc n) zero t r = (omega arith, r)
+unit_back (suc n) (suc i) t r = let k = unit_back n i t r in (omega (arith, k.0), k.1)
+
+pub units_within : (n i : ℕ) → Within ⊤ (IsUnit n i) (reads_at (row_of (units n)) i)
+units_within n i = record { inside = λ t r. (t, unit_there n i t r, same_tree t); all = λ _ t r. (t, unit_back n i t r, same_tree t) }
+
+-- An enum of n variants without content.
+abbrev pub of_units : ℕ → Described
+of_units n = record { has = IsVariant (IsUnit n); message = choice (row_of (units n)); exact = ⊤; within = variants_within (units_within n) }

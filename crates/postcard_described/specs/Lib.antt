@@ -25,3 +25,4 @@ pub use Rattle.postcard_described.specs.Described.{of_few, of_integer, of_leaf, 
 pub use Rattle.postcard_described.specs.Described.{flat_then, of_seq, of_some, part_then}
 pub use Rattle.postcard_described.specs.Names.{HasFields, HasVariants, first_text, names_of, text_of}
 pub use Rattle.postcard_schema.specs.declared.schema.Schema.{Schema}
+pub use Rattle.postcard_described.specs.Described.{of_units, units}

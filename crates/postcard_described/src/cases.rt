@@ -3,7 +3,7 @@
 ghost use Rattle.std.specs.Prelude.{◌≡◌, ◌++◌, ℕ, length, map, IfErr, IfOk, OnOk};
 ghost use Rattle.postcard_described.specs.{alike, case_same, case_then, choice, contents, no_cases};
 ghost use Rattle.postcard_described.specs.{HasVariants, first_text, names_of, of_cases, row_of};
-ghost use Rattle.postcard_described.specs.{type_of, variants_same};
+ghost use Rattle.postcard_described.specs.{type_of, units, variants_same};
 ghost use Rattle.postcard_described.specs.Described.{CasesDescribed};
 ghost use Rattle.postcard_described.specs.Within.{Same};
 
@@ -88,6 +88,19 @@ pub fn enum_schema<C: SchemaCases>(alloc: Global, names: &[VariantName<'_>]) -> 
 {
     let mut variants = Vec::new(alloc);
     C::push_cases(alloc, names, &mut variants)?;
+    Ok(choice_schema(variants))
+}
+
+/// Returns the schema of an enum of variants without content, which have these names.
+pub fn units_schema(alloc: Global, names: &[&str]) -> Result<Schema>
+    ensures typed { IfOk result (λ schema.
+        type_of schema ≡ choice (row_of (units (length names.now)))) }
+    ensures only_out_of_memory { IfErr result (λ e. e ≡ Error.OutOfMemory) }
+{
+    let mut variants = Vec::new(alloc);
+    for name in names {
+        push_named(alloc, name, Schema::Tuple(Vec::new(alloc)), &mut variants)?;
+    }
     Ok(choice_schema(variants))
 }
 
