@@ -1,5 +1,5 @@
 -- What a schema says of a type: the type of its messages, and how its trees and those that are read are tied.
-use Rattle.std.specs.Prelude.{ℕ, zero, suc, ◌<◌, ⊤, List, [], ◌∷◌, ◌++◌}
+use Rattle.std.specs.Prelude.{ℕ, zero, suc, ⊤, List, [], ◌∷◌, ◌++◌}
 use Rattle.postcard_wire.specs.Tree.{Tree, Trees}
 use Rattle.postcard_wire.specs.Reading.{IsOption, IsSeq, IsArray, IsThen, IsGroup, IsVariant, IsEnd}
 use Rattle.postcard_shape.specs.Cases.{case_reads}

@@ -1,5 +1,5 @@
 -- One variant more is the unit.
-use Rattle.std.proofs.Common.{◌≡◌, ◌+◌, ◌++◌, [], ◌∷◌, map, sym, ap, ◌∙◌}
+use Rattle.std.proofs.Common.{◌++◌, [], ◌∷◌, map, sym, ap, ◌∙◌}
 use native.Mathlib.Numerals.{add-one}
 use Rattle.std.proofs.lemmas.List.{map-append}
 use Rattle.postcard_schema.specs.declared.schema.Schema.TheVariants.{Tuple}

@@ -1,5 +1,5 @@
 -- Each variant so far is the unit.
-use Rattle.std.proofs.Common.{◌≡◌, length, map}
+use Rattle.std.proofs.Common.{◌≡◌, map}
 use Rattle.postcard_described.specs.{contents, type_of, units}
 use Rattle.postcard_described.proofs.cases.units_schema.Given as goal
 
