@@ -9,4 +9,4 @@ pub use Rattle.postcard_schema.specs.Leaves.{float_name, float_size, integer_nam
 pub use Rattle.postcard_schema.specs.Leaves.{leaf_name, order_name, size_of}
 pub use Rattle.postcard_schema.specs.Meaning.{contents, has_bytes, some_has_bytes, type_of}
 pub use Rattle.postcard_schema.specs.Meaning.{types_of}
-pub use Rattle.postcard_schema.specs.Paths.{path_text, placed_text, step_text}
+pub use Rattle.postcard_schema.specs.Paths.{path_text, placed_text, plain_step, step_text}
