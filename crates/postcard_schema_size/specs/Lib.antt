@@ -5,6 +5,7 @@ pub mod Endless
 -- The words that clauses of this crate cite, under one path.
 pub use Rattle.postcard_wire.specs.Reading.{IsArray, IsGroup, IsVariant}
 pub use Rattle.postcard_max.specs.Limits.{AreBounded, IsReached}
+pub use Rattle.postcard_max.specs.Sizes.{greater_of, sum_of, varint_len as len_of}
 pub use Rattle.postcard_schema.specs.Meaning.{contents, reads, reads_all, reads_at, type_of}
 pub use Rattle.postcard_schema.specs.Meaning.{types_of}
 pub use Rattle.postcard_schema.specs.Paths.{plain_path, plain_step}

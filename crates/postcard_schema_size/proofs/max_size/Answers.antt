@@ -6,7 +6,7 @@ use Rattle.postcard_schema_size.proofs.Holds.{bounded, is_reached}
 use Rattle.postcard_schema_size.proofs.max_size.Goals as goal
 
 pub returns-clause-bounded : goal.returns-clause-bounded
-returns-clause-bounded c = let t = type_of c.args.schema.now in subst (λ n. AreBounded n (reads t)) (sym c.size.ensures) (bounded t)
+returns-clause-bounded c = let t = type_of c.args.schema.now in subst (λ n. AreBounded n (reads t)) (sym c.sizes_of.ensures.greatest) (bounded t)
 
 pub returns-clause-is_reached : goal.returns-clause-is_reached
-returns-clause-is_reached c = let t = type_of c.args.schema.now in λ may. subst (λ n. IsReached n (reads t)) (sym c.size.ensures) (is_reached t may)
+returns-clause-is_reached c = let t = type_of c.args.schema.now in λ may. subst (λ n. IsReached n (reads t)) (sym c.sizes_of.ensures.greatest) (is_reached t may)
