@@ -24,13 +24,4 @@ module _ (P : ℕ → (Tree → Type 0) → Type 0) (byte : P 1 IsByte) (num : (
 
 -- A number of a fixed width has at most 16 bytes.
 pub size_few : (i : Integer) → size_of i ≤ 16
-size_few U8 = omega arith
-size_few U16 = omega arith
-size_few U32 = omega arith
-size_few U64 = omega arith
-size_few U128 = omega arith
-size_few I8 = omega arith
-size_few I16 = omega arith
-size_few I32 = omega arith
-size_few I64 = omega arith
-size_few I128 = omega arith
+size_few i = grind arith
