@@ -1,10 +1,11 @@
 -- The paths in a type from those in its parts, one after the other.
-use Rattle.std.proofs.Common.{◌≡◌, ℕ, ◌<◌, List, [], ◌∷◌, ◌++◌, map, Vec, Box, refl, sym, ap, ◌∙◌, rules, append_assoc, append-nil}
+use Rattle.std.proofs.Common.{◌≡◌, ℕ, ◌<◌, List, [], ◌∷◌, ◌++◌, map, Vec, Box, refl, ap, rules, append_assoc, append-nil}
 use Rattle.std.specs.Prelude.{nat_lt, Bool, true, false, if◌then◌else◌, string_bytes}
 use Rattle.std.specs.declared.alloc.Global.{Global}
 use Rattle.std.proofs.lemmas.Bool.{lt-ltb}
 use Rattle.std.proofs.lemmas.List.{map-append}
 use Rattle.std.proofs.lemmas.List.Folds.{flat_map-map}
+use Rattle.std.proofs.lemmas.Simd.{map-map}
 use Rattle.postcard_schema.specs.Paths.{PlainStep, at_name, at_part, at_each}
 use Rattle.postcard_schema.specs.declared.leaf.Leaf.{Leaf}
 use Rattle.postcard_schema.specs.declared.schema.Named.{Named}
@@ -45,17 +46,12 @@ endless_enum v = search (rules, the_lemmas, named_paths)
 
 -- ---- Steps
 
-pub after_none : (paths : Paths) → after [] paths ≡ paths
-after_none [] = refl
-after_none (p ∷ ps) = ap (λ paths. p ∷ paths) (after_none ps)
-
 -- The paths after a step that comes after others.
 pub after_step : (here : List PlainStep) (s : PlainStep) (paths : Paths) → after here (after (s ∷ []) paths) ≡ after (here ++ s ∷ []) paths
-after_step here s [] = refl
-after_step here s (p ∷ ps) = rw (append_assoc here (s ∷ []) p) (ap (λ paths. (here ++ s ∷ p) ∷ paths) (after_step here s ps))
+after_step here s paths = simp (append_assoc, map-map)
 
 pub after_first : (here : List PlainStep) (s : PlainStep) (paths others : Paths) → after here (after (s ∷ []) paths ++ others) ≡ after (here ++ s ∷ []) paths ++ after here others
-after_first here s paths others = map-append (λ path. here ++ path) (after (s ∷ []) paths) others ∙ ap (λ ps. ps ++ after here others) (after_step here s paths)
+after_first here s paths others = simp (append_assoc, map-append, map-map)
 
 -- The path of a type itself, and those in its parts.
 pub after_whole : (here : List PlainStep) (is : Bool) → after here (if is then [] ∷ [] else []) ≡ (if is then here ∷ [] else [])
@@ -63,21 +59,12 @@ after_whole here true = ap (λ path. path ∷ []) (append-nil here)
 after_whole here false = refl
 
 pub after_here : (here : List PlainStep) (old now paths : Paths) → now ≡ old ++ here ∷ [] → old ++ after here ([] ∷ paths) ≡ now ++ after here paths
-after_here here old now paths added =
-    ap (λ path. old ++ path ∷ after here paths) (append-nil here) ∙ sym (append_assoc old (here ∷ []) (after here paths)) ∙ sym (ap (λ ps. ps ++ after here paths) added)
+after_here here old now paths added = rw added (simp (append_assoc, append-nil))
 
 -- The paths in the entries of a map.
 pub after_entries : (here : List PlainStep) (keys values old now both all : Paths) → now ≡ old ++ here ∷ [] → both ≡ now ++ after ((here ++ at_each ∷ []) ++ at_part 0 ∷ []) keys
     → all ≡ both ++ after ((here ++ at_each ∷ []) ++ at_part 1 ∷ []) values → all ≡ old ++ after here ([] ∷ in_entries keys values)
-after_entries here keys values old now both all first second third =
-    let entry = here ++ at_each ∷ [] in
-    let in_key = after (entry ++ at_part 0 ∷ []) keys in
-    let in_value = after (entry ++ at_part 1 ∷ []) values in
-    let inner : after here (in_entries keys values) ≡ in_key ++ in_value =
-    after_step here at_each (after (at_part 0 ∷ []) keys ++ after (at_part 1 ∷ []) values)
-    ∙ after_first entry (at_part 0) keys (after (at_part 1 ∷ []) values) ∙ ap (λ ps. in_key ++ ps) (after_step entry (at_part 1) values) in
-    third ∙ ap (λ ps. ps ++ in_value) second ∙ append_assoc now in_key in_value
-    ∙ sym (after_here here old now (in_entries keys values) first ∙ ap (λ ps. now ++ ps) inner)
+after_entries here keys values old now both all first second third = rw (third, second, first) (simp (append_assoc, append-nil, map-append, map-map))
 
 -- The paths in the elements of an array that has some.
 pub some_elements : (n : ℕ) (paths : Paths) → 0 < n → (if nat_lt 0 n then paths else []) ≡ paths
@@ -93,6 +80,4 @@ moved here h step s paths found now new back same is added = rw (← back, ← s
 -- The paths so far are those before and those of one part more; with the paths of the others, these are all.
 pub next : (here : List PlainStep) (step : PlainStep) (paths others left now new all : Paths) → new ≡ now ++ after (here ++ step ∷ []) paths → left ≡ after here (after (step ∷ []) paths ++ others)
     → now ++ left ≡ all → new ++ after here others ≡ all
-next here step paths others left now new all added first whole =
-    ap (λ ps. ps ++ after here others) added ∙ append_assoc now (after (here ++ step ∷ []) paths) (after here others)
-    ∙ sym (ap (λ ps. now ++ ps) (first ∙ after_first here step paths others)) ∙ whole
+next here step paths others left now new all added first whole = rw (added, append_assoc) (rw (first, after_first) at whole)
