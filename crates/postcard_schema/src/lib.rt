@@ -2,6 +2,7 @@
 //! messages of its type (`specs/Meaning.antt`).
 #![tactic(auto)]
 
+mod copy;
 pub mod leaf;
 pub mod path;
 pub mod schema;

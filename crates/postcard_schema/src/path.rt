@@ -1,7 +1,7 @@
 //! The path of a part in the value around it, such as `samples[1].label`.
 
 ghost use Rattle.std.specs.Prelude.{Some};
-ghost use Rattle.postcard_schema.specs.{WritesOnOk, path_text, placed_text, step_text};
+ghost use Rattle.postcard_schema.specs.{WritesOnOk, path_text, placed_text, plain_step, step_text};
 
 use std::fmt;
 
@@ -15,11 +15,13 @@ pub enum Step<'a> {
     Part(usize),
     /// The element of a list or an array, or the entry of a map, with this number.
     Element(u64),
+    /// Each element of a list or an array, or each entry of a map.
+    Each,
 }
 
 /// The steps from a value to one of its parts. It is printed with a `.` before a name or the number
-/// of a part, unless it comes first, and with the number of an element in brackets. The path of the
-/// whole value is empty.
+/// of a part, unless it comes first, and with the number of an element in brackets, or empty brackets
+/// for each element. The path of the whole value is empty.
 #[derive(Debug, Drop)]
 pub struct Path<'a> {
     /// The steps, the outermost first.
@@ -39,22 +41,23 @@ impl fmt::Display for Path<'_> {
 
 /// Prints the step at this index of a path, and the sign before it.
 fn write_step<W: fmt::Write>(step: Step<'_>, index: usize, f: &mut fmt::Formatter<W>) -> fmt::Result
-    ensures { WritesOnOk W.write_str_gives f.old result (placed_text index step.entry) f.new }
+    ensures { WritesOnOk W.write_str_gives f.old result (placed_text index (plain_step step.entry)) f.new }
 {
-    if index > 0 && !matches!(step, Step::Element(_)) {
+    if index > 0 && !matches!(step, Step::Element(_) | Step::Each) {
         f.write_str(".")?;
     }
     write!(f, "{step}")
 }
 
 impl fmt::Display for Step<'_> {
-    ghost output = { λ step. Some (step_text step) };
+    ghost output = { λ step. Some (step_text (plain_step step)) };
 
     fn fmt<W: fmt::Write>(&self, f: &mut fmt::Formatter<W>) -> fmt::Result {
         match self {
             Step::Name(name) => f.write_str(name),
             Step::Part(number) => write!(f, "{number}"),
             Step::Element(number) => write!(f, "[{number}]"),
+            Step::Each => f.write_str("[]"),
         }
     }
 }
