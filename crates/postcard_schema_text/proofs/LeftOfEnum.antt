@@ -1,5 +1,5 @@
 -- What is left of an enum after its first variants, and of a variant after its name.
-use Rattle.std.proofs.Common.{◌≡◌, ℕ, suc, ◌<◌, Bool, true, false, List, [], ◌∷◌, ◌++◌, length, Vec, string_bytes, refl, sym, ap, ◌∙◌, subst, arith, ◌⊎◌, inl, inr}
+use Rattle.std.proofs.Common.{◌≡◌, ℕ, suc, ◌<◌, Bool, true, false, List, [], ◌∷◌, ◌++◌, length, Vec, string_bytes, refl, sym, ap, ◌∙◌, subst, arith, inl, inr}
 use Rattle.std.specs.declared.alloc.Global.{Global}
 use Rattle.std.specs.Char.{is_ascii_uppercase}
 use Rattle.postcard_schema.specs.declared.schema.Named.{Named}
@@ -12,7 +12,7 @@ use Rattle.postcard_schema_text.specs.Grammar.{Separated, IsTupleRest, IsFieldsR
 use Rattle.postcard_schema_text.specs.Fronts.{follows_type, follows_variant, HasFront, IsOnlyFront, SameNamed}
 use Rattle.postcard_schema_text.specs.FrontLemmas.{takes_split, WordTaken, same_word, sign_ends_word, not_empty}
 use Rattle.postcard_schema_text.proofs.Heads.{variant_head, separated_first, starts_not_by}
-use Rattle.postcard_schema_text.proofs.Left.{after_sign, other_sign, goes_variant, goes_ends_word, not_next, not_next_type, Alike, alike_contents, RowLeft, RowAfter, RowFront, RowEnds, row_front, row_after, row_goes, row_ends, row_follows, row_new}
+use Rattle.postcard_schema_text.proofs.Left.{after_sign, other_sign, goes_variant, goes_ends_word, not_next, not_next_type, Alike, alike_contents, RowLeft, RowAfter, RowFront, row_front, row_after, row_goes, row_ends, row_follows, row_new}
 
 abbrev Types : Type 1
 Types = Schema → List ℕ → Type 0
@@ -132,11 +132,10 @@ enum_after T done leads s y a c r h goes one =
 
 -- After a `|` a variant is next.
 pub enum_bar : (T : Types) (done : List (Named Schema)) (leads : Bool) (s : Schema) (a c r : List ℕ) → EnumAfter T done leads s a r → GoesOnBy follows_type r → TakesPhrase (IsSign 124) a c → EnumLeft T done leads s c r
-enum_bar T done leads s a c r h goes bar = by (row_goes (IsVariantText T) 124 SameNamed done h.variants.items a c r refl h.row bar)
-  where
-    by : RowEnds SameNamed done h.variants.items a r ⊎ RowLeft (IsVariantText T) 124 SameNamed done h.variants.items c r → EnumLeft T done leads s c r
-    by (inl ends) = absurd (not_next_type 124 r c refl refl goes (subst (λ t. TakesPhrase (IsSign 124) t c) ends.same bar))
-    by (inr row) = record { variants = h.variants; is = h.is; differ = h.differ; many = h.many; row = row }
+enum_bar T done leads s a c r h goes bar = elim (row_goes (IsVariantText T) 124 SameNamed done h.variants.items a c r refl h.row bar) [
+  | inl ends ↦ absurd (not_next_type 124 r c refl refl goes (subst (λ t. TakesPhrase (IsSign 124) t c) ends.same bar))
+  | inr row ↦ record { variants = h.variants; is = h.is; differ = h.differ; many = h.many; row = row }
+]
 
 alike_length : (xs ys : List (Named Schema)) → Alike SameNamed xs ys → length xs ≡ length ys
 alike_length [] [] h = refl

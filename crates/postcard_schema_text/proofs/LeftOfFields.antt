@@ -80,13 +80,19 @@ fields_begin T s a r (front, (v, is, differ, h), whole) =
       takes_end = k.2;
     }
 
+-- The end of a struct is a `}`, with a `,` before it or none.
+end_sign : (a r : List ℕ) → TakesPhrase FieldsEnd a r → TakesPhrase (IsSign 125) a r ⊎ ((k : List ℕ) × TakesPhrase (IsSign 44) a k × TakesPhrase (IsSign 125) k r)
+end_sign a r h = let (k, (f, comma, e), close) = takes_split (IsMaybe 44) (IsSign 125) a r h in elim comma [
+  | inl none ↦ inl (subst (λ t. TakesPhrase (IsSign 125) t r) (sym (e ∙ ap (λ t. t ++ k) none)) close)
+  | inr sign ↦ inr (k, (f, sign, e), close)
+]
+
 -- What may follow a field.
 end_goes : (a r : List ℕ) → TakesPhrase FieldsEnd a r → GoesOnBy follows_type a
-end_goes a r h = by (takes_split (IsMaybe 44) (IsSign 125) a r h)
-  where
-    by : (k : List ℕ) × TakesPhrase (IsMaybe 44) a k × TakesPhrase (IsSign 125) k r → GoesOnBy follows_type a
-    by (k, (f, inl none, e), close) = inr (125, r, refl, subst (λ t. TakesPhrase (IsSign 125) t r) (sym (e ∙ ap (λ t. t ++ k) none)) close)
-    by (k, (f, inr comma, e), close) = inr (44, k, refl, (f, comma, e))
+end_goes a r h = elim (end_sign a r h) [
+  | inl close ↦ inr (125, r, refl, close)
+  | inr (k, comma, close) ↦ inr (44, k, refl, comma)
+]
 
 field_goes : (T : Types) (done : List (Named Schema)) (s : Schema) (a r : List ℕ) (h : FieldsLeft T done s a r) (f : RowFront (IsField T) 44 SameNamed done h.fields.items a h.end) → GoesOnBy follows_type f.rest
 field_goes T done s a r h f = row_follows (IsField T) 44 follows_type f.more f.rest h.end refl f.left (end_goes h.end r h.takes_end)
@@ -123,27 +129,29 @@ ended done s v a k is h = is ∙ ap group (alike_contents v.items done h.alike)
 
 close_at : (T : Types) (done : List (Named Schema)) (s : Schema) (a e r : List ℕ) → FieldsAfter T done s a r → TakesPhrase (IsSign 125) a e → FieldsClosed done s e r
 close_at T done s a e r h close =
-    let ends = row_ends (IsField T) 44 SameNamed done h.fields.items a h.end h.row (λ m comma. other_sign 44 125 a m e refl refl refl comma close) in
-    record { is = ended done s h.fields a h.end h.is ends; same = by (takes_split (IsMaybe 44) (IsSign 125) h.end r h.takes_end) (subst (λ t. TakesPhrase (IsSign 125) t e) ends.same close) }
-  where
-    by : (k : List ℕ) × TakesPhrase (IsMaybe 44) h.end k × TakesPhrase (IsSign 125) k r → TakesPhrase (IsSign 125) h.end e → r ≡ e
-    by (k, (f, inl none, whole), sign) taken = after_sign 125 h.end r e refl (subst (λ t. TakesPhrase (IsSign 125) t r) (sym (whole ∙ ap (λ t. t ++ k) none)) sign) taken
-    by (k, (f, inr comma, whole), sign) taken = absurd (other_sign 44 125 h.end k e refl refl refl (f, comma, whole) taken)
+    let no_comma = λ (m : List ℕ) (comma : TakesPhrase (IsSign 44) a m). other_sign 44 125 a m e refl refl refl comma close in
+    let ends = row_ends (IsField T) 44 SameNamed done h.fields.items a h.end h.row no_comma in
+    record {
+      is = ended done s h.fields a h.end h.is ends;
+      same = elim (end_sign a r (rw ends.same h.takes_end)) [
+        | inl end ↦ after_sign 125 a r e refl end close
+        | inr (k, comma, end) ↦ absurd (no_comma k comma)
+      ];
+    }
 
 -- After a `,` the struct is closed, or a field is next.
 fields_comma : (T : Types) (done : List (Named Schema)) (s : Schema) (a c r : List ℕ) → FieldsAfter T done s a r → TakesPhrase (IsSign 44) a c
     → ((type_of s ≡ group (types_of (contents done))) × TakesPhrase (IsSign 125) c r) ⊎ FieldsLeft T done s c r
-fields_comma T done s a c r h comma = by (row_goes (IsField T) 44 SameNamed done h.fields.items a c h.end refl h.row comma)
-  where
-    at_end : (a ≡ h.end) → (k : List ℕ) × TakesPhrase (IsMaybe 44) h.end k × TakesPhrase (IsSign 125) k r → TakesPhrase (IsSign 125) c r
-    at_end e (k, (f, inl none, whole), sign) =
-        let here : TakesPhrase (IsSign 125) a r = subst (λ t. TakesPhrase (IsSign 125) t r) (sym (e ∙ whole ∙ ap (λ t. t ++ k) none)) sign in
-        absurd (other_sign 44 125 a c r refl refl refl comma here)
-    at_end e (k, (f, inr first, whole), sign) = subst (λ t. TakesPhrase (IsSign 125) t r) (after_sign 44 a k c refl (f, first, e ∙ whole) comma) sign
-
-    by : RowEnds SameNamed done h.fields.items a h.end ⊎ RowLeft (IsField T) 44 SameNamed done h.fields.items c h.end → ((type_of s ≡ group (types_of (contents done))) × TakesPhrase (IsSign 125) c r) ⊎ FieldsLeft T done s c r
-    by (inl ends) = inl (ended done s h.fields a h.end h.is ends, at_end ends.same (takes_split (IsMaybe 44) (IsSign 125) h.end r h.takes_end))
-    by (inr row) = inr record { fields = h.fields; end = h.end; is = h.is; differ = h.differ; row = row; takes_end = h.takes_end }
+fields_comma T done s a c r h comma = elim (row_goes (IsField T) 44 SameNamed done h.fields.items a c h.end refl h.row comma) [
+  | inl ends ↦ inl (
+    ended done s h.fields a h.end h.is ends,
+    elim (end_sign a r (rw ends.same h.takes_end)) [
+      | inl close ↦ absurd (other_sign 44 125 a c r refl refl refl comma close)
+      | inr (k, first, close) ↦ subst (λ t. TakesPhrase (IsSign 125) t r) (after_sign 44 a k c refl first comma) close
+    ],
+  )
+  | inr row ↦ inr record { fields = h.fields; end = h.end; is = h.is; differ = h.differ; row = row; takes_end = h.takes_end }
+]
 
 -- Where a field is next, no `}` is, and the text doesn't end.
 fields_not_close : (T : Types) (done : List (Named Schema)) (s : Schema) (a e r : List ℕ) → FieldsLeft T done s a r → TakesPhrase (IsSign 125) a e → ⊥
@@ -160,29 +168,26 @@ fields_not_ended T done s r h =
 pub fields_close : (T : Types) (done : List (Named Schema)) (s : Schema) (comma : Bool) (a c e r : List ℕ) → FieldsAfter T done s a r
     → (comma ≡ true → TakesPhrase (IsSign 44) a c) → (comma ≡ false → c ≡ a) → TakesPhrase (IsSign 125) c e → FieldsClosed done s e r
 fields_close T done s false a c e r h taken same close = close_at T done s a e r h (subst (λ t. TakesPhrase (IsSign 125) t e) (same refl) close)
-fields_close T done s true a c e r h taken same close = by (fields_comma T done s a c r h (taken refl))
-  where
-    by : ((type_of s ≡ group (types_of (contents done))) × TakesPhrase (IsSign 125) c r) ⊎ FieldsLeft T done s c r → FieldsClosed done s e r
-    by (inl k) = record { is = k.0; same = after_sign 125 c r e refl k.1 close }
-    by (inr k) = absurd (fields_not_close T done s c e r k close)
+fields_close T done s true a c e r h taken same close = elim (fields_comma T done s a c r h (taken refl)) [
+  | inl k ↦ record { is = k.0; same = after_sign 125 c r e refl k.1 close }
+  | inr k ↦ absurd (fields_not_close T done s c e r k close)
+]
 
 -- After a `,` and without a `}` a field is next.
 pub fields_next : (T : Types) (done : List (Named Schema)) (s : Schema) (a c r : List ℕ) → FieldsAfter T done s a r → TakesPhrase (IsSign 44) a c → ((e : List ℕ) → TakesPhrase (IsSign 125) c e → ⊥) → FieldsLeft T done s c r
-fields_next T done s a c r h comma none = by (fields_comma T done s a c r h comma)
-  where
-    by : ((type_of s ≡ group (types_of (contents done))) × TakesPhrase (IsSign 125) c r) ⊎ FieldsLeft T done s c r → FieldsLeft T done s c r
-    by (inl k) = absurd (none r k.1)
-    by (inr k) = k
+fields_next T done s a c r h comma none = elim (fields_comma T done s a c r h comma) [
+  | inl k ↦ absurd (none r k.1)
+  | inr k ↦ k
+]
 
 -- After a field comes a `}` or a `,`.
 pub fields_go_on : (T : Types) (done : List (Named Schema)) (s : Schema) (a r : List ℕ) → FieldsAfter T done s a r → ((e : List ℕ) → TakesPhrase (IsSign 125) a e → ⊥) → ((e : List ℕ) → TakesPhrase (IsSign 44) a e → ⊥) → ⊥
 fields_go_on T done s a r h no_close no_comma =
     let ends = row_ends (IsField T) 44 SameNamed done h.fields.items a h.end h.row no_comma in
-    by (takes_split (IsMaybe 44) (IsSign 125) h.end r h.takes_end) ends.same
-  where
-    by : (k : List ℕ) × TakesPhrase (IsMaybe 44) h.end k × TakesPhrase (IsSign 125) k r → a ≡ h.end → ⊥
-    by (k, (f, inl none, whole), sign) e = no_close r (subst (λ t. TakesPhrase (IsSign 125) t r) (sym (e ∙ whole ∙ ap (λ t. t ++ k) none)) sign)
-    by (k, (f, inr comma, whole), sign) e = no_comma k (f, comma, e ∙ whole)
+    elim (end_sign a r (rw ends.same h.takes_end)) [
+      | inl close ↦ no_close r close
+      | inr (k, comma, close) ↦ no_comma k comma
+    ]
 
 -- A struct begins with a name and a `:`.
 pub fields_named : (T : Types) (s : Schema) (a r : List ℕ) → TakesPhrase (IsFieldsRest T s) a r → IsNamed a

@@ -58,19 +58,14 @@ list_left T s e a c r one (front, inr (b, n, is, full, h), whole) =
 -- After a `;` a count and `]` are left.
 pub array_left : (s : Schema) (e : MessageType) (c d r : List ℕ) → ListLeft s e c r → TakesPhrase (IsSign 59) c d
     → (n : ℕ) × (k : List ℕ) × (type_of s ≡ array n e) × TakesPhrase (IsCount n) d k × TakesPhrase (IsSign 93) k r × EndsWord k
-array_left s e c d r h semicolon = by h.left
-  where
-    by : (((type_of s ≡ seq e) × TakesPhrase (IsSign 93) c r) ⊎ ((n : ℕ) × (m : List ℕ) × (k : List ℕ) × (type_of s ≡ array n e) × TakesPhrase (IsSign 59) c m × TakesPhrase (IsCount n) m k × TakesPhrase (IsSign 93) k r))
-        → (n : ℕ) × (k : List ℕ) × (type_of s ≡ array n e) × TakesPhrase (IsCount n) d k × TakesPhrase (IsSign 93) k r × EndsWord k
-    by (inl (is, close)) = absurd (other_sign 93 59 c r d refl refl refl close semicolon)
-    by (inr (n, m, k, is, sign, count, close)) =
-        (n, k, is, subst (λ t. TakesPhrase (IsCount n) t k) (after_sign 59 c m d refl sign semicolon) count, close, sign_ends_word 93 k r refl close)
+array_left s e c d r h semicolon = elim h.left [
+  | inl (is, close) ↦ absurd (other_sign 93 59 c r d refl refl refl close semicolon)
+  | inr (n, m, k, is, sign, count, close) ↦ (n, k, is, subst (λ t. TakesPhrase (IsCount n) t k) (after_sign 59 c m d refl sign semicolon) count, close, sign_ends_word 93 k r refl close)
+]
 
 -- Without a `;` a `]` is left.
 pub seq_left : (s : Schema) (e : MessageType) (c r : List ℕ) → ListLeft s e c r → ((d : List ℕ) → TakesPhrase (IsSign 59) c d → ⊥) → (type_of s ≡ seq e) × TakesPhrase (IsSign 93) c r
-seq_left s e c r h none = by h.left
-  where
-    by : (((type_of s ≡ seq e) × TakesPhrase (IsSign 93) c r) ⊎ ((n : ℕ) × (m : List ℕ) × (k : List ℕ) × (type_of s ≡ array n e) × TakesPhrase (IsSign 59) c m × TakesPhrase (IsCount n) m k × TakesPhrase (IsSign 93) k r))
-        → (type_of s ≡ seq e) × TakesPhrase (IsSign 93) c r
-    by (inl h) = h
-    by (inr (n, m, k, is, sign, count, close)) = absurd (none m sign)
+seq_left s e c r h none = elim h.left [
+  | inl h ↦ h
+  | inr (n, m, k, is, sign, count, close) ↦ absurd (none m sign)
+]

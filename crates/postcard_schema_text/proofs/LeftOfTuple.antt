@@ -1,5 +1,5 @@
 -- What is left of a tuple after its first types.
-use Rattle.std.proofs.Common.{◌≡◌, ℕ, List, [], ◌∷◌, ◌++◌, length, Vec, refl, sym, ap, ◌∙◌, subst, arith, ◌⊎◌, inl, inr}
+use Rattle.std.proofs.Common.{◌≡◌, ℕ, List, [], ◌∷◌, ◌++◌, length, Vec, refl, ap, ◌∙◌, subst, arith, ◌⊎◌, inl, inr}
 use Rattle.std.specs.declared.alloc.Global.{Global}
 use Rattle.postcard_schema.specs.declared.schema.Schema.{Schema}
 use Rattle.postcard_schema.specs.Meaning.{group, no_types, type_of, types_of}
@@ -47,19 +47,17 @@ tuple_front d s a r (front, inr (inr (v, is, h)), whole) =
 
 -- After a `)` nothing is left.
 pub tuple_empty : (d : ℕ) (s : Schema) (a e r : List ℕ) → TakesPhrase (IsTupleRest (IsType d) s) a r → TakesPhrase (IsSign 41) a e → (type_of s ≡ group no_types) × (r ≡ e)
-tuple_empty d s a e r h close = by (tuple_front d s a r h)
-  where
-    by : ((type_of s ≡ group no_types) × TakesPhrase (IsSign 41) a r) ⊎ TupleFront d s a r → (type_of s ≡ group no_types) × (r ≡ e)
-    by (inl k) = (k.0, after_sign 41 a r e refl k.1 close)
-    by (inr f) = absurd (type_not_close d f.first a f.rest e f.taken close)
+tuple_empty d s a e r h close = elim (tuple_front d s a r h) [
+  | inl k ↦ (k.0, after_sign 41 a r e refl k.1 close)
+  | inr f ↦ absurd (type_not_close d f.first a f.rest e f.taken close)
+]
 
 -- Without a `)` there is a type.
 pub tuple_first : (d : ℕ) (s : Schema) (a r : List ℕ) → TakesPhrase (IsTupleRest (IsType d) s) a r → ((e : List ℕ) → TakesPhrase (IsSign 41) a e → ⊥) → TupleFront d s a r
-tuple_first d s a r h none = by (tuple_front d s a r h)
-  where
-    by : ((type_of s ≡ group no_types) × TakesPhrase (IsSign 41) a r) ⊎ TupleFront d s a r → TupleFront d s a r
-    by (inl k) = absurd (none r k.1)
-    by (inr f) = f
+tuple_first d s a r h none = elim (tuple_front d s a r h) [
+  | inl k ↦ absurd (none r k.1)
+  | inr f ↦ f
+]
 
 pub tuple_begins : (d : ℕ) (s : Schema) (a r : List ℕ) → TupleFront d s a r → HasFront (GoesOnBy follows_type) (IsType d) a
 tuple_begins d s a r f = (f.first, f.rest, f.taken, f.goes)
@@ -79,62 +77,58 @@ tuple_end_one n a e r one (front, inr (many, h), whole) close = omega (arith, on
 
 -- After the first type and a `)`, the whole is that type; x is the type that was taken.
 pub tuple_single : (d : ℕ) (s x : Schema) (a c e r : List ℕ) → IsOnlyFront SameType (GoesOnBy follows_type) (IsType d) x a c → TupleFront d s a r → TakesPhrase (IsSign 41) c e → (type_of s ≡ type_of x) × (r ≡ e)
-tuple_single d s x a c e r one f close = by f.left
-  where
-    only : (type_of f.first ≡ type_of x) × (f.rest ≡ c)
-    only = one f.first f.rest f.taken f.goes
-
-    here : TakesPhrase (IsSign 41) f.rest e
-    here = subst (λ t. TakesPhrase (IsSign 41) t e) (sym only.1) close
-
-    by : ((type_of s ≡ type_of f.first) × TakesPhrase (IsSign 41) f.rest r)
-        ⊎ ((v : Vec Schema Global) × (more : List Schema) × (k : List ℕ) × (type_of s ≡ group (types_of v.items)) × (v.items ≡ f.first ∷ more) × After (IsType d) 44 more f.rest k × TakesPhrase (IsTupleEnd (length v.items)) k r)
-        → (type_of s ≡ type_of x) × (r ≡ e)
-    by (inl k) = (k.0 ∙ only.0, after_sign 41 f.rest r e refl k.1 here)
-    by (inr (v, [], k, is, items, same, end)) = absurd (tuple_end_one (length v.items) k e r (ap length items) end (subst (λ t. TakesPhrase (IsSign 41) t e) same here))
-    by (inr (v, u ∷ us, k, is, items, (m, comma, row), end)) = absurd (other_sign 44 41 f.rest m e refl refl refl comma here)
+tuple_single d s x a c e r one f close =
+    let only = one f.first f.rest f.taken f.goes in
+    let here : TakesPhrase (IsSign 41) f.rest e = rw only.1 close in
+    elim f.left [
+      | inl k ↦ (k.0 ∙ only.0, after_sign 41 f.rest r e refl k.1 here)
+      | inr (v, [], k, is, items, same, end) ↦ absurd (tuple_end_one (length v.items) k e r (ap length items) end (subst (λ t. TakesPhrase (IsSign 41) t e) same here))
+      | inr (v, u ∷ us, k, is, items, (m, comma, row), end) ↦ absurd (other_sign 44 41 f.rest m e refl refl refl comma here)
+    ]
 
 -- Otherwise it is a tuple, of which x is the first type.
 pub tuple_after_first : (d : ℕ) (s x : Schema) (a c r : List ℕ) → IsOnlyFront SameType (GoesOnBy follows_type) (IsType d) x a c → TupleFront d s a r → ((e : List ℕ) → TakesPhrase (IsSign 41) c e → ⊥) → TupleAfter d (x ∷ []) s c r
-tuple_after_first d s x a c r one f none = by f.left
-  where
-    only : (type_of f.first ≡ type_of x) × (f.rest ≡ c)
-    only = one f.first f.rest f.taken f.goes
-
-    by : ((type_of s ≡ type_of f.first) × TakesPhrase (IsSign 41) f.rest r)
-        ⊎ ((v : Vec Schema Global) × (more : List Schema) × (k : List ℕ) × (type_of s ≡ group (types_of v.items)) × (v.items ≡ f.first ∷ more) × After (IsType d) 44 more f.rest k × TakesPhrase (IsTupleEnd (length v.items)) k r)
-        → TupleAfter d (x ∷ []) s c r
-    by (inl k) = absurd (none r (subst (λ t. TakesPhrase (IsSign 41) t r) only.1 k.1))
-    by (inr (v, more, k, is, items, left, end)) = record {
-      parts = v;
-      end = k;
-      is = is;
-      row = record { before = f.first ∷ []; more = more; whole = items; alike = (only.0, tt); left = subst (λ t. After (IsType d) 44 more t k) only.1 left };
-      takes_end = end;
-    }
+tuple_after_first d s x a c r one f none =
+    let only = one f.first f.rest f.taken f.goes in
+    elim f.left [
+      | inl k ↦ absurd (none r (subst (λ t. TakesPhrase (IsSign 41) t r) only.1 k.1))
+      | inr (v, more, k, is, items, left, end) ↦ record {
+        parts = v;
+        end = k;
+        is = is;
+        row = record { before = f.first ∷ []; more = more; whole = items; alike = (only.0, tt); left = subst (λ t. After (IsType d) 44 more t k) only.1 left };
+        takes_end = end;
+      }
+    ]
 
 tuple_types : (done : List Schema) (s : Schema) (v : Vec Schema Global) (a k : List ℕ) → type_of s ≡ group (types_of v.items) → RowEnds SameType done v.items a k → type_of s ≡ group (types_of done)
 tuple_types done s v a k is h = is ∙ ap group (alike_types v.items done h.alike)
+
+-- The end of a tuple begins with a `,`, or with a `)` that ends it.
+end_sign : (n : ℕ) (a k r : List ℕ) → a ≡ k → TakesPhrase (IsTupleEnd n) k r → ((m : List ℕ) × TakesPhrase (IsSign 44) a m × TakesPhrase (IsSign 41) m r) ⊎ TakesPhrase (IsSign 41) a r
+end_sign n a k r same (front, inl h, whole) = inl (takes_split (IsSign 44) (IsSign 41) a r (front, h, same ∙ whole))
+end_sign n a k r same (front, inr (many, h), whole) = inr (front, h, same ∙ whole)
 
 -- After a type comes `,` or `)`.
 pub tuple_go_on : (d : ℕ) (done : List Schema) (s : Schema) (a r : List ℕ) → TupleAfter d done s a r → ((e : List ℕ) → TakesPhrase (IsSign 41) a e → ⊥) → ((e : List ℕ) → TakesPhrase (IsSign 44) a e → ⊥) → ⊥
 tuple_go_on d done s a r h no_close no_comma =
     let ends = row_ends (IsType d) 44 SameType done h.parts.items a h.end h.row no_comma in
-    by (length h.parts.items) h.takes_end ends.same
-  where
-    by : (n : ℕ) → TakesPhrase (IsTupleEnd n) h.end r → a ≡ h.end → ⊥
-    by n (front, inl k, whole) e = let m = takes_split (IsSign 44) (IsSign 41) h.end r (front, k, whole) in no_comma m.0 (subst (λ t. TakesPhrase (IsSign 44) t m.0) (sym e) m.1)
-    by n (front, inr (many, k), whole) e = no_close r (front, k, e ∙ whole)
+    elim (end_sign (length h.parts.items) a h.end r ends.same h.takes_end) [
+      | inl (m, comma, close) ↦ no_comma m comma
+      | inr close ↦ no_close r close
+    ]
 
 -- After a type and `)` nothing is left.
 pub tuple_close : (d : ℕ) (done : List Schema) (s : Schema) (a e r : List ℕ) → TupleAfter d done s a r → TakesPhrase (IsSign 41) a e → (type_of s ≡ group (types_of done)) × (r ≡ e)
 tuple_close d done s a e r h close =
-    let ends = row_ends (IsType d) 44 SameType done h.parts.items a h.end h.row (λ m comma. other_sign 44 41 a m e refl refl refl comma close) in
-    (tuple_types done s h.parts a h.end h.is ends, by (length h.parts.items) h.takes_end ends.same)
-  where
-    by : (n : ℕ) → TakesPhrase (IsTupleEnd n) h.end r → a ≡ h.end → r ≡ e
-    by n (front, inl k, whole) same = let m = takes_split (IsSign 44) (IsSign 41) h.end r (front, k, whole) in absurd (other_sign 44 41 a m.0 e refl refl refl (subst (λ t. TakesPhrase (IsSign 44) t m.0) (sym same) m.1) close)
-    by n (front, inr (many, k), whole) same = after_sign 41 a r e refl (front, k, same ∙ whole) close
+    let no_comma = λ (m : List ℕ) (comma : TakesPhrase (IsSign 44) a m). other_sign 44 41 a m e refl refl refl comma close in
+    let ends = row_ends (IsType d) 44 SameType done h.parts.items a h.end h.row no_comma in (
+      tuple_types done s h.parts a h.end h.is ends,
+      elim (end_sign (length h.parts.items) a h.end r ends.same h.takes_end) [
+        | inl (m, comma, end) ↦ absurd (no_comma m comma)
+        | inr end ↦ after_sign 41 a r e refl end close
+      ],
+    )
 
 -- What is left of a tuple where a type is next.
 pub record TupleLeft (d : ℕ) (done : List Schema) (s : Schema) (a r : List ℕ) : Type 0 where
@@ -145,35 +139,32 @@ pub record TupleLeft (d : ℕ) (done : List Schema) (s : Schema) (a r : List ℕ
   pub takes_end : TakesPhrase (IsTupleEnd (length parts.items)) end r
 
 -- After a `,` comes `)`, or another type.
-pub tuple_comma : (d : ℕ) (done : List Schema) (s : Schema) (a c r : List ℕ) → TupleAfter d done s a r → TakesPhrase (IsSign 44) a c
+tuple_comma : (d : ℕ) (done : List Schema) (s : Schema) (a c r : List ℕ) → TupleAfter d done s a r → TakesPhrase (IsSign 44) a c
     → ((type_of s ≡ group (types_of done)) × TakesPhrase (IsSign 41) c r) ⊎ TupleLeft d done s c r
-tuple_comma d done s a c r h comma = by (row_goes (IsType d) 44 SameType done h.parts.items a c h.end refl h.row comma)
-  where
-    at_end : (n : ℕ) → TakesPhrase (IsTupleEnd n) h.end r → a ≡ h.end → TakesPhrase (IsSign 41) c r
-    at_end n (front, inl k, whole) same =
-        let m = takes_split (IsSign 44) (IsSign 41) h.end r (front, k, whole) in
-        subst (λ t. TakesPhrase (IsSign 41) t r) (after_sign 44 a m.0 c refl (subst (λ t. TakesPhrase (IsSign 44) t m.0) (sym same) m.1) comma) m.2
-    at_end n (front, inr (many, k), whole) same = absurd (other_sign 44 41 a c r refl refl refl comma (front, k, same ∙ whole))
-
-    by : RowEnds SameType done h.parts.items a h.end ⊎ RowLeft (IsType d) 44 SameType done h.parts.items c h.end → ((type_of s ≡ group (types_of done)) × TakesPhrase (IsSign 41) c r) ⊎ TupleLeft d done s c r
-    by (inl ends) = inl (tuple_types done s h.parts a h.end h.is ends, at_end (length h.parts.items) h.takes_end ends.same)
-    by (inr row) = inr record { parts = h.parts; end = h.end; is = h.is; row = row; takes_end = h.takes_end }
+tuple_comma d done s a c r h comma = elim (row_goes (IsType d) 44 SameType done h.parts.items a c h.end refl h.row comma) [
+  | inl ends ↦ inl (
+    tuple_types done s h.parts a h.end h.is ends,
+    elim (end_sign (length h.parts.items) a h.end r ends.same h.takes_end) [
+      | inl (m, first, close) ↦ subst (λ t. TakesPhrase (IsSign 41) t r) (after_sign 44 a m c refl first comma) close
+      | inr close ↦ absurd (other_sign 44 41 a c r refl refl refl comma close)
+    ],
+  )
+  | inr row ↦ inr record { parts = h.parts; end = h.end; is = h.is; row = row; takes_end = h.takes_end }
+]
 
 -- After `,` and `)` nothing is left.
 pub tuple_comma_close : (d : ℕ) (done : List Schema) (s : Schema) (a c e r : List ℕ) → TupleAfter d done s a r → TakesPhrase (IsSign 44) a c → TakesPhrase (IsSign 41) c e → (type_of s ≡ group (types_of done)) × (r ≡ e)
-tuple_comma_close d done s a c e r h comma close = by (tuple_comma d done s a c r h comma)
-  where
-    by : ((type_of s ≡ group (types_of done)) × TakesPhrase (IsSign 41) c r) ⊎ TupleLeft d done s c r → (type_of s ≡ group (types_of done)) × (r ≡ e)
-    by (inl k) = (k.0, after_sign 41 c r e refl k.1 close)
-    by (inr k) = let f = row_front (IsType d) 44 SameType done k.parts.items c k.end k.row in absurd (type_not_close d f.first c f.rest e f.taken close)
+tuple_comma_close d done s a c e r h comma close = elim (tuple_comma d done s a c r h comma) [
+  | inl k ↦ (k.0, after_sign 41 c r e refl k.1 close)
+  | inr k ↦ (let f = row_front (IsType d) 44 SameType done k.parts.items c k.end k.row in absurd (type_not_close d f.first c f.rest e f.taken close))
+]
 
 -- After a `,` and without a `)` a type is next.
 pub tuple_next : (d : ℕ) (done : List Schema) (s : Schema) (a c r : List ℕ) → TupleAfter d done s a r → TakesPhrase (IsSign 44) a c → ((e : List ℕ) → TakesPhrase (IsSign 41) c e → ⊥) → TupleLeft d done s c r
-tuple_next d done s a c r h comma none = by (tuple_comma d done s a c r h comma)
-  where
-    by : ((type_of s ≡ group (types_of done)) × TakesPhrase (IsSign 41) c r) ⊎ TupleLeft d done s c r → TupleLeft d done s c r
-    by (inl k) = absurd (none r k.1)
-    by (inr k) = k
+tuple_next d done s a c r h comma none = elim (tuple_comma d done s a c r h comma) [
+  | inl k ↦ absurd (none r k.1)
+  | inr k ↦ k
+]
 
 next_goes : (d : ℕ) (done : List Schema) (s : Schema) (a r : List ℕ) → (h : TupleLeft d done s a r) → (f : RowFront (IsType d) 44 SameType done h.parts.items a h.end) → GoesOnBy follows_type f.rest
 next_goes d done s a r h f = row_follows (IsType d) 44 follows_type f.more f.rest h.end refl f.left (tuple_end_goes (length h.parts.items) h.end r h.takes_end)

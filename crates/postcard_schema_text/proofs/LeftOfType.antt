@@ -13,7 +13,7 @@ use Rattle.postcard_schema_text.specs.Text.{Then, TakesPhrase, IsSign, IsWord, I
 use Rattle.postcard_schema_text.specs.Grammar.{Separated, IsListRest, IsTupleRest, IsFieldsRest, IsMapRest, IsBracesRest, IsNamedRest, IsWorded, IsPlain, IsReferenceRest, IsBehind, IsReferred, IsContent, IsVariantText, IsLead, IsEnumText, IsType}
 use Rattle.postcard_schema_text.specs.Fronts.{follows_type, follows_variant, follows_name, IsNamed, Starts, StartsEnum}
 use Rattle.postcard_schema_text.specs.FrontLemmas.{word_unblank, takes_split, WordTaken, sign_ends_word, sign_unblank, same_first, pass_head}
-use Rattle.postcard_schema_text.proofs.Heads.{word_starts, plain_head, worded_head, enum_starts, separated_first, starts_plain, starts_not_by, in_options, Signs, options_split, name_filled, one_name, name_end}
+use Rattle.postcard_schema_text.proofs.Heads.{worded_head, referred_head, enum_starts, separated_first, starts_referred, starts_not_by, in_options, Signs, options_split, name_filled, one_name, name_end}
 use Rattle.postcard_schema_text.proofs.Left.{after_sign, other_sign, goes_variant, goes_ends_word, goes_no_name, name_ends_word, not_next, not_next_type, row_follows}
 use Rattle.postcard_schema_text.proofs.LeftOfFields.{fields_named}
 use Rattle.postcard_schema_text.proofs.LeftOfEnum.{variant_front, whole_word}
@@ -82,31 +82,29 @@ question_no_name : (n : ℕ) (m r : List ℕ) → GoesOnBy follows_type r → Si
 question_no_name zero m r goes same h = goes_no_name r goes (subst (Starts follows_name) same h)
 question_no_name (suc n) m r goes (k, sign, more) h = starts_not_by follows_name 63 m k refl refl h sign
 
+question_no_colon : (n : ℕ) (m r c : List ℕ) → GoesOnBy follows_type r → Signs 63 n m r → TakesPhrase (IsSign 58) m c → ⊥
+question_no_colon zero m r c goes same colon = not_next_type 58 r c refl refl goes (subst (λ t. TakesPhrase (IsSign 58) t c) same colon)
+question_no_colon (suc n) m r c goes (k, sign, more) colon = other_sign 63 58 m k c refl refl refl sign colon
+
+-- Where a filled word is next, a type that is no enum begins with its name, after which it ends or `<` comes.
+plain_word : (T : Types) (s : Schema) (a v b m : List ℕ) → 0 < length v → WordTaken a v b → EndsWord m → TakesPhrase (IsPlain T s) a m → (b ≡ m) ⊎ ((c : List ℕ) × TakesPhrase (IsSign 60) b c)
+plain_word T s a v b m filled taken ends (front, inl h, whole) = let f = word_front T s a v b m taken ends (front, h, whole) in name_end T f.kind s b m f.left
+plain_word T s a v b m filled taken ends (front, inr (inl h), whole) = let k = takes_split (IsSign 91) (IsListRest T s) a m (front, h, whole) in absurd (word_not_sign v 91 a b k.0 filled refl refl taken k.1)
+plain_word T s a v b m filled taken ends (front, inr (inr (inl h)), whole) = let k = takes_split (IsSign 40) (IsTupleRest T s) a m (front, h, whole) in absurd (word_not_sign v 40 a b k.0 filled refl refl taken k.1)
+plain_word T s a v b m filled taken ends (front, inr (inr (inr h)), whole) = let k = takes_split (IsSign 123) (IsBracesRest T s) a m (front, h, whole) in absurd (word_not_sign v 123 a b k.0 filled refl refl taken k.1)
+
+referred_word : (T : Types) (s : Schema) (a v b m : List ℕ) → 0 < length v → WordTaken a v b → EndsWord m → TakesPhrase (IsReferred T s) a m → (b ≡ m) ⊎ ((c : List ℕ) × TakesPhrase (IsSign 60) b c)
+referred_word T s a v b m filled taken ends (front, (zero, h), whole) = plain_word T s a v b m filled taken ends (front, h, whole)
+referred_word T s a v b m filled taken ends (front, (suc n, h), whole) =
+    let k = takes_split (IsSign 38) (IsReferenceRest (IsBehind n T s)) a m (front, h, whole) in absurd (word_not_sign v 38 a b k.0 filled refl refl taken k.1)
+
 -- A type that is no enum doesn't begin as one.
-plain_no_enum : (T : Types) (s : Schema) (a m : List ℕ) → EndsWord m → (Starts follows_name m → ⊥) → StartsEnum a → TakesPhrase (IsPlain T s) a m → ⊥
-plain_no_enum T s a m ends none (inl (rest, bar)) h = starts_not_by starts_plain 124 a rest refl refl (plain_head T s a m h) bar
-plain_no_enum T s a m ends none (inr (v, b, named, word, next)) h = by h
-  where
-    taken : WordTaken a v b
-    taken = taken_whole v a b named.0 word (name_ends_word b next)
-
-    by_end : (b ≡ m) ⊎ ((c : List ℕ) × TakesPhrase (IsSign 60) b c) → ⊥
-    by_end (inl same) = none (subst (Starts follows_name) same next)
-    by_end (inr (c, sign)) = starts_not_by follows_name 60 b c refl refl next sign
-
-    by : TakesPhrase (IsPlain T s) a m → ⊥
-    by (front, inl k, whole) = let f = word_front T s a v b m taken ends (front, k, whole) in by_end (name_end T f.kind s b m f.left)
-    by (front, inr (inl k), whole) = let l = takes_split (IsSign 91) (IsListRest T s) a m (front, k, whole) in word_not_sign v 91 a b l.0 named.0 refl refl taken l.1
-    by (front, inr (inr (inl k)), whole) = let l = takes_split (IsSign 40) (IsTupleRest T s) a m (front, k, whole) in word_not_sign v 40 a b l.0 named.0 refl refl taken l.1
-    by (front, inr (inr (inr k)), whole) = let l = takes_split (IsSign 123) (IsBracesRest T s) a m (front, k, whole) in word_not_sign v 123 a b l.0 named.0 refl refl taken l.1
-
 referred_no_enum : (T : Types) (s : Schema) (a m : List ℕ) → EndsWord m → (Starts follows_name m → ⊥) → StartsEnum a → TakesPhrase (IsReferred T s) a m → ⊥
-referred_no_enum T s a m ends none starts (front, (zero, h), whole) = plain_no_enum T s a m ends none starts (front, h, whole)
-referred_no_enum T s a m ends none starts (front, (suc n, h), whole) = by starts (takes_split (IsSign 38) (IsReferenceRest (IsBehind n T s)) a m (front, h, whole))
-  where
-    by : StartsEnum a → (b : List ℕ) × TakesPhrase (IsSign 38) a b × TakesPhrase (IsReferenceRest (IsBehind n T s)) b m → ⊥
-    by (inl (rest, bar)) (b, sign, left) = other_sign 124 38 a rest b refl refl refl bar sign
-    by (inr (v, c, named, word, next)) (b, sign, left) = starts_not_by is_of_word 38 a b refl refl (word_starts v a c named.0 word) sign
+referred_no_enum T s a m ends none (inl (rest, bar)) h = starts_not_by starts_referred 124 a rest refl refl (referred_head T s a m h) bar
+referred_no_enum T s a m ends none (inr (v, b, named, word, next)) h = elim (referred_word T s a v b m named.0 (taken_whole v a b named.0 word (name_ends_word b next)) ends h) [
+  | inl same ↦ none (subst (Starts follows_name) same next)
+  | inr (c, sign) ↦ starts_not_by follows_name 60 b c refl refl next sign
+]
 
 -- A text that begins as an enum is one.
 pub type_as_enum : (d e : ℕ) (s : Schema) (a r : List ℕ) → d ≡ suc e → StartsEnum a → GoesOnBy follows_type r → TakesPhrase (IsType d s) a r → TakesPhrase (IsEnumText (IsType e) s) a r
@@ -233,30 +231,12 @@ type_not_named (suc d) s a v b c m (front, inl (vs, is, differ, h), whole) goes 
         let same : a ≡ k = e ∙ ap (λ t. t ++ k) nothing in
         let variant = variant_front (IsType d) first.0 a v b first.2 taken (subst (λ t. TakesPhrase (IsVariantText (IsType d) first.0) t first.2) (sym same) first.4) next in
         by_content first.0.content first.2 next variant.left
-type_not_named (suc d) s a v b c m (front, inr (n, few, h), whole) goes taken filled colon = by_referred split.2
-  where
-    split : (x : Schema) × (k : List ℕ) × TakesPhrase (IsReferred (IsType d) x) a k × (type_of s ≡ in_options n (type_of x)) × Signs 63 n k m
-    split = options_split (IsReferred (IsType d)) n s a m (front, h, whole)
-
-    no_colon : (j : ℕ) (k : List ℕ) → Signs 63 j k m → TakesPhrase (IsSign 58) k c → ⊥
-    no_colon zero k same sign = not_next_type 58 m c refl refl goes (subst (λ t. TakesPhrase (IsSign 58) t c) same sign)
-    no_colon (suc j) k (l, first, more) sign = other_sign 63 58 k l c refl refl refl first sign
-
-    by_end : (b ≡ split.1) ⊎ ((k : List ℕ) × TakesPhrase (IsSign 60) b k) → ⊥
-    by_end (inl same) = no_colon n split.1 split.4 (subst (λ t. TakesPhrase (IsSign 58) t c) same colon)
-    by_end (inr (k, sign)) = other_sign 60 58 b k c refl refl refl sign colon
-
-    by_plain : TakesPhrase (IsPlain (IsType d) split.0) a split.1 → ⊥
-    by_plain (f, inl h, e) =
-        let word = word_front (IsType d) split.0 a v b split.1 taken (question_ends n split.1 m goes split.4) (f, h, e) in
-        by_end (name_end (IsType d) word.kind split.0 b split.1 word.left)
-    by_plain (f, inr (inl k), e) = let p = takes_split (IsSign 91) (IsListRest (IsType d) split.0) a split.1 (f, k, e) in word_not_sign v 91 a b p.0 filled refl refl taken p.1
-    by_plain (f, inr (inr (inl k)), e) = let p = takes_split (IsSign 40) (IsTupleRest (IsType d) split.0) a split.1 (f, k, e) in word_not_sign v 40 a b p.0 filled refl refl taken p.1
-    by_plain (f, inr (inr (inr k)), e) = let p = takes_split (IsSign 123) (IsBracesRest (IsType d) split.0) a split.1 (f, k, e) in word_not_sign v 123 a b p.0 filled refl refl taken p.1
-
-    by_referred : TakesPhrase (IsReferred (IsType d) split.0) a split.1 → ⊥
-    by_referred (f, (zero, h), e) = by_plain (f, h, e)
-    by_referred (f, (suc j, h), e) = let p = takes_split (IsSign 38) (IsReferenceRest (IsBehind j (IsType d) split.0)) a split.1 (f, h, e) in word_not_sign v 38 a b p.0 filled refl refl taken p.1
+type_not_named (suc d) s a v b c m (front, inr (n, few, h), whole) goes taken filled colon =
+    let split = options_split (IsReferred (IsType d)) n s a m (front, h, whole) in
+    elim (referred_word (IsType d) split.0 a v b split.1 filled taken (question_ends n split.1 m goes split.4) split.2) [
+      | inl same ↦ question_no_colon n split.1 m c goes split.4 (subst (λ t. TakesPhrase (IsSign 58) t c) same colon)
+      | inr (k, sign) ↦ other_sign 60 58 b k c refl refl refl sign colon
+    ]
 
 -- What follows a `{` is a struct if a name and a `:` are next, and else a map.
 pub braces_as_fields : (d : ℕ) (s : Schema) (a r : List ℕ) → IsNamed a → TakesPhrase (IsBracesRest (IsType d) s) a r → TakesPhrase (IsFieldsRest (IsType d) s) a r
