@@ -8,7 +8,8 @@ use Rattle.postcard_schema_text.specs.declared.angled.Holder.{Holder}
 use Rattle.postcard_schema_text.specs.declared.angled.Holder.TheVariants as holders
 use Rattle.postcard_schema_text.specs.Angled.{MayHold, IsHolderOf}
 
-pub list_made : (h : Holder) (x : Schema) (b : Box Schema Global) → h ≡ holders.List → has_bytes (type_of x) ≡ true → b.value ≡ x → MayHold h (type_of x) × IsHolderOf h x (Seq b)
+pub list_made : (h : Holder) (x : Schema) (b : Box Schema Global) → h ≡ holders.List → has_bytes (type_of x) ≡ true → b.value ≡ x
+    → MayHold h (type_of x) × IsHolderOf h x (Seq b)
 list_made h x b is full held = rw is (full, (b, refl, held))
 
 pub option_made : (h : Holder) (x : Schema) (b : Box Schema Global) → h ≡ holders.Option → b.value ≡ x → MayHold h (type_of x) × IsHolderOf h x (Option b)

@@ -60,10 +60,12 @@ row n P sign (s ∷ u ∷ ss) t each (a, b, h, (c, d, g, rest, e), f) = one n (t
 abbrev BoundsNamed : ℕ → (Named Schema → List ℕ → Type 0) → Type 0
 BoundsNamed n P = (x : Named Schema) (t : List ℕ) → P x t → Bounded n (type_of x.content)
 
-named_row : (n : ℕ) (P : Named Schema → List ℕ → Type 0) (sign : ℕ) (ns : List (Named Schema)) (t : List ℕ) → BoundsNamed n P → Separated P sign ns t → AllBounded n (types_of (contents ns))
+named_row : (n : ℕ) (P : Named Schema → List ℕ → Type 0) (sign : ℕ) (ns : List (Named Schema)) (t : List ℕ) → BoundsNamed n P → Separated P sign ns t
+    → AllBounded n (types_of (contents ns))
 named_row n P sign [] t each h = absurd h
 named_row n P sign (x ∷ []) t each h = one n (type_of x.content) no_types (each x t h) (none n)
-named_row n P sign (x ∷ y ∷ ns) t each (a, b, h, (c, d, g, rest, e), f) = one n (type_of x.content) (types_of (contents (y ∷ ns))) (each x a h) (named_row n P sign (y ∷ ns) d each rest)
+named_row n P sign (x ∷ y ∷ ns) t each (a, b, h, (c, d, g, rest, e), f) =
+    one n (type_of x.content) (types_of (contents (y ∷ ns))) (each x a h) (named_row n P sign (y ∷ ns) d each rest)
 
 of_list : (n : ℕ) (T : Schema → List ℕ → Type 0) → Bounds n T → Bounds (n + 1) (IsListRest T)
 of_list n T each s t (inl (b, is, full, (x, y, h, close, e))) = rw (is, type_of_seq b) (bounded_seq n (type_of b.value) full (each b.value x h))
@@ -78,7 +80,8 @@ of_field : (n : ℕ) (T : Schema → List ℕ → Type 0) → Bounds n T → Bou
 of_field n T each x t (named, (a, b, word, (u, v, colon, h, e), f)) = each x.content v h
 
 of_fields : (n : ℕ) (T : Schema → List ℕ → Type 0) → Bounds n T → Bounds (n + 1) (IsFieldsRest T)
-of_fields n T each s t (v, is, differ, (x, y, h, end, e)) = rw (is, type_of_struct v) (bounded_group n (types_of (contents v.items)) (named_row n (IsField T) 44 v.items x (of_field n T each) h))
+of_fields n T each s t (v, is, differ, (x, y, h, end, e)) =
+    rw (is, type_of_struct v) (bounded_group n (types_of (contents v.items)) (named_row n (IsField T) 44 v.items x (of_field n T each) h))
 
 of_one : (n : ℕ) (h : Holder) (x s : Schema) → MayHold h (type_of x) → IsHolderOf h x s → Bounded n (type_of x) → Bounded (n + 1) (type_of s)
 of_one n holders.Itself x s may is inside = rw is (more n (n + 1) (type_of x) (omega arith) inside)
@@ -86,7 +89,8 @@ of_one n holders.List x s may (b, is, value) inside = rw (is, type_of_seq b, val
 of_one n holders.Option x s may (b, is, value) inside = rw (is, type_of_option b, value) record { full = inside.full; low = omega (arith, inside.low) }
 of_one n (holders.Fixed order) x s may (integer, wide, made) inside = rw (made, type_of_leaf (Fixed order integer)) record { full = tt; low = omega arith }
 
-of_two : (n : ℕ) (p : Pair) (x y s : Schema) → MayPair p (type_of x) (type_of y) → IsPairOf p x y s → Bounded n (type_of x) → Bounded n (type_of y) → Bounded (n + 2) (type_of s)
+of_two : (n : ℕ) (p : Pair) (x y s : Schema) → MayPair p (type_of x) (type_of y) → IsPairOf p x y s → Bounded n (type_of x) → Bounded n (type_of y)
+    → Bounded (n + 2) (type_of s)
 of_two n pairs.Map x y s may (b, c, is, key, value) first second =
     let inside : Bounded (n + 1) (entry_of (type_of x) (type_of y)) = bounded_group n _ (one n (type_of x) (then_type (type_of y) no_types) first (one n (type_of y) no_types second (none n))) in
     rw (is, type_of_map b c, key, value) (more (n + 1 + 1) (n + 2) (seq (entry_of (type_of x) (type_of y))) (omega arith) (bounded_seq (n + 1) (entry_of (type_of x) (type_of y)) may inside))
@@ -97,7 +101,8 @@ of_two n pairs.Result x y s may (v, a, b, is, items, (ok, good), (err, bad)) fir
     rw (is, type_of_enum v) (more (n + 1) (n + 2) (choice (types_of (contents v.items))) (omega arith) (bounded_choice n (types_of (contents v.items)) parts))
 
 of_map : (n : ℕ) (T : Schema → List ℕ → Type 0) → Bounds n T → Bounds (n + 2) (IsMapRest T)
-of_map n T each s t (x, y, may, is, (f, g, (f2, g2, key, equals, e2), (f3, g3, arrow, (f4, g4, value, close, e4), e3), e)) = of_two n pairs.Map x y s may is (each x f2 key) (each y f4 value)
+of_map n T each s t (x, y, may, is, (f, g, (f2, g2, key, equals, e2), (f3, g3, arrow, (f4, g4, value, close, e4), e3), e)) =
+    of_two n pairs.Map x y s may is (each x f2 key) (each y f4 value)
 
 of_worded : (n : ℕ) (T : Schema → List ℕ → Type 0) → Bounds n T → Bounds (n + 2) (IsWorded T)
 of_worded n T each s t (names.Leaf l, name, named, (f, g, word, (is, nothing), e)) = rw (is, type_of_leaf l) record { full = tt; low = omega arith }

@@ -108,7 +108,8 @@ or_left : (x y : Bool) → x ≡ true → x || y ≡ true
 or_left x y e = rw e refl
 
 -- After the name of a type it ends, or `<` comes.
-pub name_end : (T : Schema → List ℕ → Type 0) (k : TypeName) (s : Schema) (b r : List ℕ) → TakesPhrase (IsNamedRest T k s) b r → (b ≡ r) ⊎ ((c : List ℕ) × TakesPhrase (IsSign 60) b c)
+pub name_end : (T : Schema → List ℕ → Type 0) (k : TypeName) (s : Schema) (b r : List ℕ) → TakesPhrase (IsNamedRest T k s) b r
+    → (b ≡ r) ⊎ ((c : List ℕ) × TakesPhrase (IsSign 60) b c)
 name_end T (names.Leaf leaf) s b r (front, (is, none), whole) = inl (whole ∙ ap (λ t. t ++ r) none)
 name_end T (names.Angled kind) s b r h = let k = takes_split (IsSign 60) (IsAngledRest T kind s) b r h in inr (k.0, k.1)
 
@@ -134,7 +135,8 @@ starts_referred x = starts_plain x || nat_eq x 38
 
 pub referred_head : (T : Schema → List ℕ → Type 0) (s : Schema) (a r : List ℕ) → TakesPhrase (IsReferred T s) a r → Starts starts_referred a
 referred_head T s a r (front, (zero, h), whole) = let head = plain_head T s a r (front, h, whole) in (head.0, head.1, head.2, or_left (starts_plain head.0) _ head.3)
-referred_head T s a r (front, (suc n, h), whole) = let k = takes_split (IsSign 38) (IsReferenceRest (IsBehind n T s)) a r (front, h, whole) in (38, k.0, sign_unblank 38 a k.0 refl k.1, refl)
+referred_head T s a r (front, (suc n, h), whole) =
+    let k = takes_split (IsSign 38) (IsReferenceRest (IsBehind n T s)) a r (front, h, whole) in (38, k.0, sign_unblank 38 a k.0 refl k.1, refl)
 
 pub variant_head : (T : Schema → List ℕ → Type 0) (n : Named Schema) (a r : List ℕ) → TakesPhrase (IsVariantText T n) a r → Starts is_ascii_uppercase a
 variant_head T n a r (front, (named, h), whole) =
@@ -182,8 +184,10 @@ enum_head T s a r (front, (v, is, differ, h), whole) = by_lead (takes_split _ _ 
 
 -- After the name of a variant that isn't the last one comes `|`, `(` or `{`.
 content_starts : (T : Schema → List ℕ → Type 0) (s : Schema) (a m r : List ℕ) → TakesPhrase (IsContent T s) a m → TakesPhrase (IsSign 124) m r → Starts follows_name a
-content_starts T s a m r (front, inl h, whole) bar = let k = takes_split (IsSign 40) (IsTupleRest T s) a m (front, h, whole) in (40, k.0, sign_unblank 40 a k.0 refl k.1, refl)
-content_starts T s a m r (front, inr (inl h), whole) bar = let k = takes_split (IsSign 123) (IsFieldsRest T s) a m (front, h, whole) in (123, k.0, sign_unblank 123 a k.0 refl k.1, refl)
+content_starts T s a m r (front, inl h, whole) bar =
+    let k = takes_split (IsSign 40) (IsTupleRest T s) a m (front, h, whole) in (40, k.0, sign_unblank 40 a k.0 refl k.1, refl)
+content_starts T s a m r (front, inr (inl h), whole) bar =
+    let k = takes_split (IsSign 123) (IsFieldsRest T s) a m (front, h, whole) in (123, k.0, sign_unblank 123 a k.0 refl k.1, refl)
 content_starts T s a m r (front, inr (inr (v, is, empty, none)), whole) bar =
     let same : a ≡ m = whole ∙ ap (λ t. t ++ m) none in (124, r, ap unblank same ∙ sign_unblank 124 m r refl bar, refl)
 
@@ -196,7 +200,8 @@ enum_starts T s a r (front, (v, is, differ, h), whole) = by_lead (takes_split _ 
         let k = takes_split (IsWord (string_bytes x.name)) (IsContent T x.content) a m (f, g, e) in
         inr (string_bytes x.name, k.0, named, k.1, content_starts T x.content k.0 m j k.2 bar)
 
-    by_more : (x : Named Schema) (more : List (Named Schema)) (m : List ℕ) → v.items ≡ x ∷ more → 1 < length v.items → TakesPhrase (IsVariantText T x) a m → After (IsVariantText T) 124 more m r → StartsEnum a
+    by_more : (x : Named Schema) (more : List (Named Schema)) (m : List ℕ) → v.items ≡ x ∷ more → 1 < length v.items
+        → TakesPhrase (IsVariantText T x) a m → After (IsVariantText T) 124 more m r → StartsEnum a
     by_more x [] m items many taken after = let one : length v.items ≡ 1 = ap length items in absurd (omega (arith, one, many))
     by_more x (u ∷ us) m items many taken (j, bar, row) = by_variant x m j taken bar
 
@@ -254,13 +259,15 @@ type_head (suc d) s a r (front, inr (n, few, h), whole) =
     (head.0, head.1, head.2, or_left (starts_referred head.0) (starts_enum head.0) head.3)
 
 -- What begins with a byte that passes begins with no sign that doesn't.
-pub starts_not_by : (passes : ℕ → Bool) (sign : ℕ) (a r : List ℕ) → is_ascii_whitespace sign ≡ false → passes sign ≡ false → Starts passes a → TakesPhrase (IsSign sign) a r → ⊥
+pub starts_not_by : (passes : ℕ → Bool) (sign : ℕ) (a r : List ℕ) → is_ascii_whitespace sign ≡ false → passes sign ≡ false → Starts passes a
+    → TakesPhrase (IsSign sign) a r → ⊥
 starts_not_by passes sign a r black none (x, t, e, pass) h =
     let same = same_first (sym e ∙ sign_unblank sign a r black h) in
     true≢false (sym pass ∙ ap passes same ∙ none)
 
 -- Whether the name of an enum's first variant ends here, by the first byte of the trimmed text.
-pub name_if : (text trimmed : List ℕ) (first : ℕ) (after : List ℕ) (r : Bool) → IsTrimAsciiStart text trimmed → trimmed ≡ first ∷ after → r ≡ follows_name first → Decides r (Starts follows_name text)
+pub name_if : (text trimmed : List ℕ) (first : ℕ) (after : List ℕ) (r : Bool) → IsTrimAsciiStart text trimmed → trimmed ≡ first ∷ after
+    → r ≡ follows_name first → Decides r (Starts follows_name text)
 name_if text trimmed first after r trim whole is =
     let here = sym (trim_is text trimmed trim) ∙ whole in
     (λ e. (first, after, here, sym is ∙ e), λ (x, t, e, pass). is ∙ ap follows_name (same_first (sym here ∙ e)) ∙ pass)

@@ -14,7 +14,8 @@ use Rattle.postcard_schema_text.specs.FrontLemmas.{takes_split, sign_unblank, un
 use Rattle.postcard_schema_text.proofs.Heads.{After, separated_first, starts_not_by}
 
 -- Two signs at one place are the same, and so are the texts after them.
-pub one_sign : (x y : ℕ) (a r q : List ℕ) → is_ascii_whitespace x ≡ false → is_ascii_whitespace y ≡ false → TakesPhrase (IsSign x) a r → TakesPhrase (IsSign y) a q → (x ≡ y) × (r ≡ q)
+pub one_sign : (x y : ℕ) (a r q : List ℕ) → is_ascii_whitespace x ≡ false → is_ascii_whitespace y ≡ false → TakesPhrase (IsSign x) a r
+    → TakesPhrase (IsSign y) a q → (x ≡ y) × (r ≡ q)
 one_sign x y a r q b c h k = let e = sym (sign_unblank x a r b h) ∙ sign_unblank y a q c k in (same_first e, same_rest e)
 
 -- The text after a sign, at a known sign.
@@ -22,11 +23,13 @@ pub after_sign : (x : ℕ) (a r q : List ℕ) → is_ascii_whitespace x ≡ fals
 after_sign x a r q black h k = (one_sign x x a r q black black h k).1
 
 -- What is left of a phrase that begins with a sign, after the sign.
-pub behind_sign : (sign : ℕ) (Q : List ℕ → Type 0) (a b r : List ℕ) → is_ascii_whitespace sign ≡ false → TakesPhrase (IsSign sign) a b → TakesPhrase (Then (IsSign sign) Q) a r → TakesPhrase Q b r
+pub behind_sign : (sign : ℕ) (Q : List ℕ → Type 0) (a b r : List ℕ) → is_ascii_whitespace sign ≡ false → TakesPhrase (IsSign sign) a b
+    → TakesPhrase (Then (IsSign sign) Q) a r → TakesPhrase Q b r
 behind_sign sign Q a b r black taken h = let k = takes_split (IsSign sign) Q a r h in subst (λ t. TakesPhrase Q t r) (after_sign sign a k.0 b black k.1 taken) k.2
 
 -- Two different signs are not both at one place.
-pub other_sign : (x y : ℕ) (a r q : List ℕ) → is_ascii_whitespace x ≡ false → is_ascii_whitespace y ≡ false → nat_eq x y ≡ false → TakesPhrase (IsSign x) a r → TakesPhrase (IsSign y) a q → ⊥
+pub other_sign : (x y : ℕ) (a r q : List ℕ) → is_ascii_whitespace x ≡ false → is_ascii_whitespace y ≡ false → nat_eq x y ≡ false
+    → TakesPhrase (IsSign x) a r → TakesPhrase (IsSign y) a q → ⊥
 other_sign x y a r q b c differ h k = true≢false (sym (eq-eqb x y (one_sign x y a r q b c h k).0) ∙ differ)
 
 -- A byte that is n, or passes another test, has P if n has it and what passes the test has it.
@@ -65,14 +68,16 @@ pub goes_ends_word : (a : List ℕ) → GoesOnBy follows_variant a → EndsWord 
 goes_ends_word a h = goes_on_ends_word follows_variant a follows_ends h
 
 -- What follows a type or a variant doesn't begin with another sign.
-pub not_next : (sign : ℕ) (a r : List ℕ) → is_ascii_whitespace sign ≡ false → follows_variant sign ≡ false → GoesOnBy follows_variant a → TakesPhrase (IsSign sign) a r → ⊥
+pub not_next : (sign : ℕ) (a r : List ℕ) → is_ascii_whitespace sign ≡ false → follows_variant sign ≡ false → GoesOnBy follows_variant a
+    → TakesPhrase (IsSign sign) a r → ⊥
 not_next sign a r black none goes h = goes_on_not_by follows_variant sign a r variant_black black none goes (sign_unblank sign a r black h)
 
 pub not_next_type : (sign : ℕ) (a r : List ℕ) → is_ascii_whitespace sign ≡ false → follows_type sign ≡ false → GoesOnBy follows_type a → TakesPhrase (IsSign sign) a r → ⊥
 not_next_type sign a r black none goes h = goes_on_not_by follows_type sign a r follows_black black none goes (sign_unblank sign a r black h)
 
 name_ends : (b : ℕ) → follows_name b ≡ true → is_of_word b ≡ false
-name_ends b h = by_byte (λ x. is_of_word x ≡ false) b 124 _ h refl λ h. by_byte (λ x. is_of_word x ≡ false) b 40 _ h refl λ h. subst (λ x. is_of_word x ≡ false) (sym (eqb-true b 123 h)) refl
+name_ends b h =
+    by_byte (λ x. is_of_word x ≡ false) b 124 _ h refl λ h. by_byte (λ x. is_of_word x ≡ false) b 40 _ h refl λ h. subst (λ x. is_of_word x ≡ false) (sym (eqb-true b 123 h)) refl
 
 -- A text of which the first byte after blanks is `|`, `(` or `{` goes on with no word.
 pub name_ends_word : (text : List ℕ) → Starts follows_name text → EndsWord text
@@ -162,7 +167,8 @@ pub record RowFront {A : Type 0} (P : A → List ℕ → Type 0) (sign : ℕ) (R
   pub taken : TakesPhrase (P first) a rest
   pub left : After P sign more rest r
 
-pub row_front : {A : Type 0} (P : A → List ℕ → Type 0) (sign : ℕ) (R : A → A → Type 0) (done items : List A) (a r : List ℕ) → RowLeft P sign R done items a r → RowFront P sign R done items a r
+pub row_front : {A : Type 0} (P : A → List ℕ → Type 0) (sign : ℕ) (R : A → A → Type 0) (done items : List A) (a r : List ℕ)
+    → RowLeft P sign R done items a r → RowFront P sign R done items a r
 row_front P sign R done items a r h =
     let k = separated_first P sign h.more a r h.left in
     record { before = h.before; first = k.0; more = k.1; rest = k.2; whole = h.whole ∙ ap (λ t. h.before ++ t) k.3; alike = h.alike; taken = k.4; left = k.5 }
@@ -202,12 +208,14 @@ row_ends {A} P sign R done items a r h none = by h.more h.whole h.left
     by (u ∷ us) whole (k, between, row) = absurd (none k between)
 
 -- What comes after one of a row.
-pub row_follows : {A : Type 0} (P : A → List ℕ → Type 0) (sign : ℕ) (passes : ℕ → Bool) (more : List A) (a r : List ℕ) → passes sign ≡ true → After P sign more a r → GoesOnBy passes r → GoesOnBy passes a
+pub row_follows : {A : Type 0} (P : A → List ℕ → Type 0) (sign : ℕ) (passes : ℕ → Bool) (more : List A) (a r : List ℕ) → passes sign ≡ true
+    → After P sign more a r → GoesOnBy passes r → GoesOnBy passes a
 row_follows P sign passes [] a r pass e goes = rw e goes
 row_follows P sign passes (u ∷ us) a r pass (k, between, row) goes = inr (sign, k, pass, between)
 
 -- The next of a row in which no two have the same name has a new one.
-pub row_new : (P : Named Schema → List ℕ → Type 0) (sign : ℕ) (done items : List (Named Schema)) (a r : List ℕ) → NamesDiffer items → (f : RowFront P sign SameNamed done items a r)
+pub row_new : (P : Named Schema → List ℕ → Type 0) (sign : ℕ) (done items : List (Named Schema)) (a r : List ℕ) → NamesDiffer items
+    → (f : RowFront P sign SameNamed done items a r)
     → TakesPhrase (IsNew done P f.first) a f.rest
 row_new P sign done items a r differ f =
     (f.taken.0, (alike_new f.before done (string_bytes f.first.name) f.alike (new_at f.before f.more f.first (subst NamesDiffer f.whole differ)), f.taken.1), f.taken.2)

@@ -27,7 +27,8 @@ whole_word [] v a b c filled taken word ends = absurd (omega (arith, filled))
 whole_word (x ∷ w) v a b c filled taken word ends = same_word x w v a b c taken word ends
 
 -- What is left after a `(`.
-pub content_in_tuple : (T : Types) (s : Schema) (a b r : List ℕ) → TakesPhrase (IsContent T s) a r → GoesOnBy follows_variant r → TakesPhrase (IsSign 40) a b → TakesPhrase (IsTupleRest T s) b r
+pub content_in_tuple : (T : Types) (s : Schema) (a b r : List ℕ) → TakesPhrase (IsContent T s) a r → GoesOnBy follows_variant r
+    → TakesPhrase (IsSign 40) a b → TakesPhrase (IsTupleRest T s) b r
 content_in_tuple T s a b r (front, inl h, whole) goes open_sign =
     let k = takes_split (IsSign 40) (IsTupleRest T s) a r (front, h, whole) in
     subst (λ t. TakesPhrase (IsTupleRest T s) t r) (after_sign 40 a k.0 b refl k.1 open_sign) k.2
@@ -38,7 +39,8 @@ content_in_tuple T s a b r (front, inr (inr (v, is, empty, none)), whole) goes o
     absurd (not_next 40 r b refl refl goes (subst (λ t. TakesPhrase (IsSign 40) t b) (whole ∙ ap (λ t. t ++ r) none) open_sign))
 
 -- What is left after a `{`.
-pub content_in_fields : (T : Types) (s : Schema) (a b r : List ℕ) → TakesPhrase (IsContent T s) a r → GoesOnBy follows_variant r → TakesPhrase (IsSign 123) a b → TakesPhrase (IsFieldsRest T s) b r
+pub content_in_fields : (T : Types) (s : Schema) (a b r : List ℕ) → TakesPhrase (IsContent T s) a r → GoesOnBy follows_variant r
+    → TakesPhrase (IsSign 123) a b → TakesPhrase (IsFieldsRest T s) b r
 content_in_fields T s a b r (front, inl h, whole) goes open_sign =
     let k = takes_split (IsSign 40) (IsTupleRest T s) a r (front, h, whole) in
     absurd (other_sign 40 123 a k.0 b refl refl refl k.1 open_sign)
@@ -49,10 +51,12 @@ content_in_fields T s a b r (front, inr (inr (v, is, empty, none)), whole) goes 
     absurd (not_next 123 r b refl refl goes (subst (λ t. TakesPhrase (IsSign 123) t b) (whole ∙ ap (λ t. t ++ r) none) open_sign))
 
 -- Without these nothing is left.
-pub content_of_none : (T : Types) (s : Schema) (a r : List ℕ) → TakesPhrase (IsContent T s) a r → ((b : List ℕ) → TakesPhrase (IsSign 40) a b → ⊥) → ((b : List ℕ) → TakesPhrase (IsSign 123) a b → ⊥)
+pub content_of_none : (T : Types) (s : Schema) (a r : List ℕ) → TakesPhrase (IsContent T s) a r → ((b : List ℕ) → TakesPhrase (IsSign 40) a b → ⊥)
+    → ((b : List ℕ) → TakesPhrase (IsSign 123) a b → ⊥)
     → (type_of s ≡ group no_types) × (r ≡ a)
 content_of_none T s a r (front, inl h, whole) no_tuple no_fields = let k = takes_split (IsSign 40) (IsTupleRest T s) a r (front, h, whole) in absurd (no_tuple k.0 k.1)
-content_of_none T s a r (front, inr (inl h), whole) no_tuple no_fields = let k = takes_split (IsSign 123) (IsFieldsRest T s) a r (front, h, whole) in absurd (no_fields k.0 k.1)
+content_of_none T s a r (front, inr (inl h), whole) no_tuple no_fields =
+    let k = takes_split (IsSign 123) (IsFieldsRest T s) a r (front, h, whole) in absurd (no_fields k.0 k.1)
 content_of_none T s a r (front, inr (inr (v, is, empty, none)), whole) no_tuple no_fields =
     (ap type_of is ∙ type_of_tuple v ∙ ap (λ ss. group (types_of ss)) empty, sym (whole ∙ ap (λ t. t ++ r) none))
 
@@ -68,7 +72,8 @@ pub record VariantFront (T : Types) (x : Named Schema) (v b r : List ℕ) : Type
   pub named : IsVariantName v
   pub left : TakesPhrase (IsContent T x.content) b r
 
-pub variant_front : (T : Types) (x : Named Schema) (a v b r : List ℕ) → WordTaken a v b → TakesPhrase (IsVariantText T x) a r → GoesOnBy follows_variant r → VariantFront T x v b r
+pub variant_front : (T : Types) (x : Named Schema) (a v b r : List ℕ) → WordTaken a v b → TakesPhrase (IsVariantText T x) a r
+    → GoesOnBy follows_variant r → VariantFront T x v b r
 variant_front T x a v b r taken (front, (named, h), whole) goes =
     let k = takes_split (IsWord (string_bytes x.name)) (IsContent T x.content) a r (front, h, whole) in
     let same = whole_word (string_bytes x.name) v a b k.0 named.0 taken k.1 (content_ends T x.content k.0 r k.2 goes) in
@@ -90,16 +95,19 @@ pub record EnumAfter (T : Types) (done : List (Named Schema)) (leads : Bool) (s 
   pub many : leads ≡ false → 1 < length variants.items
   pub row : RowAfter (IsVariantText T) 124 SameNamed done variants.items a r
 
-pub enum_begins : (T : Types) (leads : Bool) (s : Schema) (a b r : List ℕ) → TakesPhrase (IsEnumText T s) a r → (leads ≡ true → TakesPhrase (IsSign 124) a b) → (leads ≡ false → b ≡ a)
+pub enum_begins : (T : Types) (leads : Bool) (s : Schema) (a b r : List ℕ) → TakesPhrase (IsEnumText T s) a r
+    → (leads ≡ true → TakesPhrase (IsSign 124) a b) → (leads ≡ false → b ≡ a)
     → (leads ≡ false → (e : List ℕ) → TakesPhrase (IsSign 124) a e → ⊥) → EnumLeft T [] leads s b r
-enum_begins T leads s a b r (front, (v, is, differ, h), whole) given same none = by leads given same none (takes_split (IsLead (length v.items)) (Separated (IsVariantText T) 124 v.items) a r (front, h, whole))
+enum_begins T leads s a b r (front, (v, is, differ, h), whole) given same none =
+    by leads given same none (takes_split (IsLead (length v.items)) (Separated (IsVariantText T) 124 v.items) a r (front, h, whole))
   where
     left : (l : Bool) → (l ≡ false → 1 < length v.items) → TakesPhrase (Separated (IsVariantText T) 124 v.items) b r → EnumLeft T [] l s b r
     left l many row = record { variants = v; is = ap type_of is ∙ type_of_enum v; differ = differ; many = many; row = record { before = []; more = v.items; whole = refl; alike = tt; left = row } }
 
     by : (l : Bool) → (l ≡ true → TakesPhrase (IsSign 124) a b) → (l ≡ false → b ≡ a) → (l ≡ false → (e : List ℕ) → TakesPhrase (IsSign 124) a e → ⊥)
         → (k : List ℕ) × TakesPhrase (IsLead (length v.items)) a k × TakesPhrase (Separated (IsVariantText T) 124 v.items) k r → EnumLeft T [] l s b r
-    by true given same none (k, (f, inl sign, e), row) = left true (λ p. cc) (subst (λ t. TakesPhrase (Separated (IsVariantText T) 124 v.items) t r) (after_sign 124 a k b refl (f, sign, e) (given refl)) row)
+    by true given same none (k, (f, inl sign, e), row) =
+        left true (λ p. cc) (subst (λ t. TakesPhrase (Separated (IsVariantText T) 124 v.items) t r) (after_sign 124 a k b refl (f, sign, e) (given refl)) row)
     by true given same none (k, (f, inr (many, nothing), e), row) =
         let first = separated_first (IsVariantText T) 124 v.items k r row in
         let at : a ≡ k = e ∙ ap (λ t. t ++ k) nothing in
@@ -111,13 +119,15 @@ enum_begins T leads s a b r (front, (v, is, differ, h), whole) given same none =
 next_variant_goes : (T : Types) (done : List (Named Schema)) (leads : Bool) (s : Schema) (a r : List ℕ) (h : EnumLeft T done leads s a r) (f : RowFront (IsVariantText T) 124 SameNamed done h.variants.items a r) → GoesOnBy follows_type r → GoesOnBy follows_variant f.rest
 next_variant_goes T done leads s a r h f goes = row_follows (IsVariantText T) 124 follows_variant f.more f.rest r refl f.left (goes_variant r goes)
 
-pub variant_begins : (T : Types) (done : List (Named Schema)) (leads : Bool) (s : Schema) (a r : List ℕ) → EnumLeft T done leads s a r → GoesOnBy follows_type r → HasFront (GoesOnBy follows_variant) (IsNew done (IsVariantText T)) a
+pub variant_begins : (T : Types) (done : List (Named Schema)) (leads : Bool) (s : Schema) (a r : List ℕ) → EnumLeft T done leads s a r
+    → GoesOnBy follows_type r → HasFront (GoesOnBy follows_variant) (IsNew done (IsVariantText T)) a
 variant_begins T done leads s a r h goes =
     let f = row_front (IsVariantText T) 124 SameNamed done h.variants.items a r h.row in
     (f.first, f.rest, row_new (IsVariantText T) 124 done h.variants.items a r h.differ f, next_variant_goes T done leads s a r h f goes)
 
 -- What is left after the variant y.
-pub enum_after : (T : Types) (done : List (Named Schema)) (leads : Bool) (s : Schema) (y : Named Schema) (a c r : List ℕ) → EnumLeft T done leads s a r → GoesOnBy follows_type r
+pub enum_after : (T : Types) (done : List (Named Schema)) (leads : Bool) (s : Schema) (y : Named Schema) (a c r : List ℕ)
+    → EnumLeft T done leads s a r → GoesOnBy follows_type r
     → IsOnlyFront SameNamed (GoesOnBy follows_variant) (IsNew done (IsVariantText T)) y a c → EnumAfter T (done ++ y ∷ []) leads s c r
 enum_after T done leads s y a c r h goes one =
     let f = row_front (IsVariantText T) 124 SameNamed done h.variants.items a r h.row in
@@ -131,7 +141,8 @@ enum_after T done leads s y a c r h goes one =
     }
 
 -- After a `|` a variant is next.
-pub enum_bar : (T : Types) (done : List (Named Schema)) (leads : Bool) (s : Schema) (a c r : List ℕ) → EnumAfter T done leads s a r → GoesOnBy follows_type r → TakesPhrase (IsSign 124) a c → EnumLeft T done leads s c r
+pub enum_bar : (T : Types) (done : List (Named Schema)) (leads : Bool) (s : Schema) (a c r : List ℕ) → EnumAfter T done leads s a r
+    → GoesOnBy follows_type r → TakesPhrase (IsSign 124) a c → EnumLeft T done leads s c r
 enum_bar T done leads s a c r h goes bar = elim (row_goes (IsVariantText T) 124 SameNamed done h.variants.items a c r refl h.row bar) [
   | inl ends ↦ absurd (not_next_type 124 r c refl refl goes (subst (λ t. TakesPhrase (IsSign 124) t c) ends.same bar))
   | inr row ↦ record { variants = h.variants; is = h.is; differ = h.differ; many = h.many; row = row }
@@ -149,7 +160,8 @@ pub record EnumEnd (done : List (Named Schema)) (leads : Bool) (s : Schema) (a r
   pub same : r ≡ a
   pub many : leads ≡ false → 1 < length done
 
-pub enum_end : (T : Types) (done : List (Named Schema)) (leads : Bool) (s : Schema) (a r : List ℕ) → EnumAfter T done leads s a r → ((c : List ℕ) → TakesPhrase (IsSign 124) a c → ⊥) → EnumEnd done leads s a r
+pub enum_end : (T : Types) (done : List (Named Schema)) (leads : Bool) (s : Schema) (a r : List ℕ) → EnumAfter T done leads s a r
+    → ((c : List ℕ) → TakesPhrase (IsSign 124) a c → ⊥) → EnumEnd done leads s a r
 enum_end T done leads s a r h none =
     let ends = row_ends (IsVariantText T) 124 SameNamed done h.variants.items a r h.row none in
     record {

@@ -18,7 +18,8 @@ abbrev Types : Type 1
 Types = Schema → List ℕ → Type 0
 
 -- A word of a text that has been taken whole, with a sign after it.
-pub named_word : (w v a b c d : List ℕ) (sign : ℕ) → 0 < length w → is_of_word sign ≡ false → WordTaken a v b → TakesPhrase (IsWord w) a c → TakesPhrase (IsSign sign) c d → (w ≡ v) × (c ≡ b)
+pub named_word : (w v a b c d : List ℕ) (sign : ℕ) → 0 < length w → is_of_word sign ≡ false → WordTaken a v b → TakesPhrase (IsWord w) a c
+    → TakesPhrase (IsSign sign) c d → (w ≡ v) × (c ≡ b)
 named_word [] v a b c d sign filled none taken word h = absurd (omega (arith, filled))
 named_word (x ∷ w) v a b c d sign filled none taken word h = same_word x w v a b c taken word (sign_ends_word sign c d none h)
 
@@ -98,7 +99,8 @@ field_goes : (T : Types) (done : List (Named Schema)) (s : Schema) (a r : List �
 field_goes T done s a r h f = row_follows (IsField T) 44 follows_type f.more f.rest h.end refl f.left (end_goes h.end r h.takes_end)
 
 -- The next field.
-pub fields_field : (T : Types) (done : List (Named Schema)) (s : Schema) (a r : List ℕ) → FieldsLeft T done s a r → HasFront (GoesOnBy follows_type) (IsNew done (IsField T)) a
+pub fields_field : (T : Types) (done : List (Named Schema)) (s : Schema) (a r : List ℕ) → FieldsLeft T done s a r
+    → HasFront (GoesOnBy follows_type) (IsNew done (IsField T)) a
 fields_field T done s a r h =
     let f = row_front (IsField T) 44 SameNamed done h.fields.items a h.end h.row in
     (f.first, f.rest, row_new (IsField T) 44 done h.fields.items a h.end h.differ f, field_goes T done s a r h f)
@@ -123,7 +125,8 @@ pub record FieldsClosed (done : List (Named Schema)) (s : Schema) (e r : List �
   pub is : type_of s ≡ group (types_of (contents done))
   pub same : r ≡ e
 
-ended : (done : List (Named Schema)) (s : Schema) (v : Vec (Named Schema) Global) (a k : List ℕ) → type_of s ≡ group (types_of (contents v.items)) → RowEnds SameNamed done v.items a k
+ended : (done : List (Named Schema)) (s : Schema) (v : Vec (Named Schema) Global) (a k : List ℕ) → type_of s ≡ group (types_of (contents v.items))
+    → RowEnds SameNamed done v.items a k
     → type_of s ≡ group (types_of (contents done))
 ended done s v a k is h = is ∙ ap group (alike_contents v.items done h.alike)
 
@@ -174,14 +177,16 @@ fields_close T done s true a c e r h taken same close = elim (fields_comma T don
 ]
 
 -- After a `,` and without a `}` a field is next.
-pub fields_next : (T : Types) (done : List (Named Schema)) (s : Schema) (a c r : List ℕ) → FieldsAfter T done s a r → TakesPhrase (IsSign 44) a c → ((e : List ℕ) → TakesPhrase (IsSign 125) c e → ⊥) → FieldsLeft T done s c r
+pub fields_next : (T : Types) (done : List (Named Schema)) (s : Schema) (a c r : List ℕ) → FieldsAfter T done s a r → TakesPhrase (IsSign 44) a c
+    → ((e : List ℕ) → TakesPhrase (IsSign 125) c e → ⊥) → FieldsLeft T done s c r
 fields_next T done s a c r h comma none = elim (fields_comma T done s a c r h comma) [
   | inl k ↦ absurd (none r k.1)
   | inr k ↦ k
 ]
 
 -- After a field comes a `}` or a `,`.
-pub fields_go_on : (T : Types) (done : List (Named Schema)) (s : Schema) (a r : List ℕ) → FieldsAfter T done s a r → ((e : List ℕ) → TakesPhrase (IsSign 125) a e → ⊥) → ((e : List ℕ) → TakesPhrase (IsSign 44) a e → ⊥) → ⊥
+pub fields_go_on : (T : Types) (done : List (Named Schema)) (s : Schema) (a r : List ℕ) → FieldsAfter T done s a r
+    → ((e : List ℕ) → TakesPhrase (IsSign 125) a e → ⊥) → ((e : List ℕ) → TakesPhrase (IsSign 44) a e → ⊥) → ⊥
 fields_go_on T done s a r h no_close no_comma =
     let ends = row_ends (IsField T) 44 SameNamed done h.fields.items a h.end h.row no_comma in
     elim (end_sign a r (rw ends.same h.takes_end)) [
@@ -213,7 +218,9 @@ named_if text word after new r taken whole filled given missing = (λ e. (word, 
   where
     by : (b : Bool) → (b ≡ false → (q : List ℕ) → TakesPhrase (IsSign 58) after q → ⊥) → IsNamed text → b ≡ true
     by true none h = refl
-    by false none (w, a, q, more, h, colon) = absurd (none refl q (subst (λ t. TakesPhrase (IsSign 58) t q) (named_word w word text after a q 58 more refl taken h colon).1 colon))
+    by false none (w, a, q, more, h, colon) =
+        absurd (none refl q (subst (λ t. TakesPhrase (IsSign 58) t q) (named_word w word text after a q 58 more refl taken h colon).1 colon))
 
 pub named_unless : (text word after : List ℕ) (r : Bool) → WordTaken text word after → length word ≡ 0 → r ≡ false → Decides r (IsNamed text)
-named_unless text word after r taken none is = (λ e. absurd (true≢false (sym e ∙ is)), λ (w, a, q, filled, h, colon). absurd (omega (arith, none, filled, ap length (named_word w word text after a q 58 filled refl taken h colon).0)))
+named_unless text word after r taken none is =
+    (λ e. absurd (true≢false (sym e ∙ is)), λ (w, a, q, filled, h, colon). absurd (omega (arith, none, filled, ap length (named_word w word text after a q 58 filled refl taken h colon).0)))

@@ -13,14 +13,17 @@ abbrev Types : Type 1
 Types = Schema → List ℕ → Type 0
 
 -- A type at the start of the text after which a sign follows.
-pub front_by : (T : Types) (x : Schema) (sign : ℕ) (a m r : List ℕ) → follows_type sign ≡ true → TakesPhrase (T x) a m → TakesPhrase (IsSign sign) m r → HasFront (GoesOnBy follows_type) T a
+pub front_by : (T : Types) (x : Schema) (sign : ℕ) (a m r : List ℕ) → follows_type sign ≡ true → TakesPhrase (T x) a m → TakesPhrase (IsSign sign) m r
+    → HasFront (GoesOnBy follows_type) T a
 front_by T x sign a m r pass h k = (x, m, h, inr (sign, r, pass, k))
 
-pub ended_begins : (T : Types) (sign : ℕ) (s : Schema) (a r : List ℕ) → follows_type sign ≡ true → TakesPhrase (IsEndedBy T sign s) a r → HasFront (GoesOnBy follows_type) T a
+pub ended_begins : (T : Types) (sign : ℕ) (s : Schema) (a r : List ℕ) → follows_type sign ≡ true → TakesPhrase (IsEndedBy T sign s) a r
+    → HasFront (GoesOnBy follows_type) T a
 ended_begins T sign s a r pass h = let k = takes_split (T s) (IsSign sign) a r h in front_by T s sign a k.0 r pass k.1 k.2
 
 -- After the type the sign is left.
-pub ended_left : (T : Types) (sign : ℕ) (s x : Schema) (a c r : List ℕ) → follows_type sign ≡ true → IsOnlyFront SameType (GoesOnBy follows_type) T x a c → TakesPhrase (IsEndedBy T sign s) a r
+pub ended_left : (T : Types) (sign : ℕ) (s x : Schema) (a c r : List ℕ) → follows_type sign ≡ true
+    → IsOnlyFront SameType (GoesOnBy follows_type) T x a c → TakesPhrase (IsEndedBy T sign s) a r
     → (type_of s ≡ type_of x) × TakesPhrase (IsSign sign) c r
 ended_left T sign s x a c r pass one h =
     let k = takes_split (T s) (IsSign sign) a r h in
@@ -40,7 +43,8 @@ pub record ListLeft (s : Schema) (e : MessageType) (c r : List ℕ) : Type 0 whe
   pub left : ((type_of s ≡ seq e) × TakesPhrase (IsSign 93) c r)
       ⊎ ((n : ℕ) × (m : List ℕ) × (k : List ℕ) × (type_of s ≡ array n e) × TakesPhrase (IsSign 59) c m × TakesPhrase (IsCount n) m k × TakesPhrase (IsSign 93) k r)
 
-pub list_left : (T : Types) (s e : Schema) (a c r : List ℕ) → IsOnlyFront SameType (GoesOnBy follows_type) T e a c → TakesPhrase (IsListRest T s) a r → ListLeft s (type_of e) c r
+pub list_left : (T : Types) (s e : Schema) (a c r : List ℕ) → IsOnlyFront SameType (GoesOnBy follows_type) T e a c → TakesPhrase (IsListRest T s) a r
+    → ListLeft s (type_of e) c r
 list_left T s e a c r one (front, inl (b, is, full, h), whole) =
     let k = takes_split (T b.value) (IsSign 93) a r (front, h, whole) in
     let only = one b.value k.0 k.1 (inr (93, r, refl, k.2)) in
@@ -64,7 +68,8 @@ array_left s e c d r h semicolon = elim h.left [
 ]
 
 -- Without a `;` a `]` is left.
-pub seq_left : (s : Schema) (e : MessageType) (c r : List ℕ) → ListLeft s e c r → ((d : List ℕ) → TakesPhrase (IsSign 59) c d → ⊥) → (type_of s ≡ seq e) × TakesPhrase (IsSign 93) c r
+pub seq_left : (s : Schema) (e : MessageType) (c r : List ℕ) → ListLeft s e c r → ((d : List ℕ) → TakesPhrase (IsSign 59) c d → ⊥)
+    → (type_of s ≡ seq e) × TakesPhrase (IsSign 93) c r
 seq_left s e c r h none = elim h.left [
   | inl h ↦ h
   | inr (n, m, k, is, sign, count, close) ↦ absurd (none m sign)

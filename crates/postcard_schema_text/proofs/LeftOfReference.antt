@@ -18,28 +18,34 @@ Types = Schema → List ℕ → Type 0
 pub plain_is_referred : (T : Types) (s : Schema) (a r : List ℕ) → TakesPhrase (IsPlain T s) a r → TakesPhrase (IsReferred T s) a r
 plain_is_referred T s a r h = takes_as (IsPlain T s) (IsReferred T s) a r (λ t k. (zero, k)) h
 
-pub referred_is_plain : (T : Types) (s : Schema) (a r : List ℕ) → ((b : List ℕ) → TakesPhrase (IsSign 38) a b → ⊥) → TakesPhrase (IsReferred T s) a r → TakesPhrase (IsPlain T s) a r
+pub referred_is_plain : (T : Types) (s : Schema) (a r : List ℕ) → ((b : List ℕ) → TakesPhrase (IsSign 38) a b → ⊥) → TakesPhrase (IsReferred T s) a r
+    → TakesPhrase (IsPlain T s) a r
 referred_is_plain T s a r none (front, (zero, h), whole) = (front, h, whole)
-referred_is_plain T s a r none (front, (suc n, h), whole) = let k = takes_split (IsSign 38) (IsReferenceRest (IsBehind n T s)) a r (front, h, whole) in absurd (none k.0 k.1)
+referred_is_plain T s a r none (front, (suc n, h), whole) =
+    let k = takes_split (IsSign 38) (IsReferenceRest (IsBehind n T s)) a r (front, h, whole) in absurd (none k.0 k.1)
 
 -- If each phrase of P is one of Q, what follows a `&` before P is what follows it before Q.
 rest_as : (P Q : List ℕ → Type 0) → ((t : List ℕ) → P t → Q t) → (t : List ℕ) → IsReferenceRest P t → IsReferenceRest Q t
 rest_as P Q f t (inl h) = inl (f t h)
-rest_as P Q f t (inr (x, y, quote, (name, named, (word, back, spelled, (apart, h), e2)), e)) = inr (x, y, quote, (name, named, (word, back, spelled, (apart, f back h), e2)), e)
+rest_as P Q f t (inr (x, y, quote, (name, named, (word, back, spelled, (apart, h), e2)), e)) =
+    inr (x, y, quote, (name, named, (word, back, spelled, (apart, f back h), e2)), e)
 
 -- After a `&` come as many as there are.
 rest_of : (T : Types) (s : Schema) (t : List ℕ) → IsReferenceRest (IsReferred T s) t → (n : ℕ) × IsReferenceRest (IsBehind n T s) t
 rest_of T s t (inl (n, h)) = (n, inl h)
-rest_of T s t (inr (x, y, quote, (name, named, (word, back, spelled, (apart, (n, h)), e2)), e)) = (n, inr (x, y, quote, (name, named, (word, back, spelled, (apart, h), e2)), e))
+rest_of T s t (inr (x, y, quote, (name, named, (word, back, spelled, (apart, (n, h)), e2)), e)) =
+    (n, inr (x, y, quote, (name, named, (word, back, spelled, (apart, h), e2)), e))
 
 -- What is left after a `&`, and what is taken by taking it.
-pub reference_left : (T : Types) (s : Schema) (a b r : List ℕ) → TakesPhrase (IsSign 38) a b → TakesPhrase (IsReferred T s) a r → TakesPhrase (IsReferenceRest (IsReferred T s)) b r
+pub reference_left : (T : Types) (s : Schema) (a b r : List ℕ) → TakesPhrase (IsSign 38) a b → TakesPhrase (IsReferred T s) a r
+    → TakesPhrase (IsReferenceRest (IsReferred T s)) b r
 reference_left T s a b r sign (front, (zero, h), whole) = absurd (starts_not_by starts_plain 38 a b refl refl (plain_head T s a r (front, h, whole)) sign)
 reference_left T s a b r sign (front, (suc n, h), whole) =
     takes_as (IsReferenceRest (IsBehind n T s)) (IsReferenceRest (IsReferred T s)) b r (λ t g. rest_as (IsBehind n T s) (IsReferred T s) (λ u q. (n, q)) t g)
     (behind_sign 38 (IsReferenceRest (IsBehind n T s)) a b r refl sign (front, h, whole))
 
-pub reference_takes : (T : Types) (s : Schema) (a b r : List ℕ) → TakesPhrase (IsSign 38) a b → TakesPhrase (IsReferenceRest (IsReferred T s)) b r → TakesPhrase (IsReferred T s) a r
+pub reference_takes : (T : Types) (s : Schema) (a b r : List ℕ) → TakesPhrase (IsSign 38) a b → TakesPhrase (IsReferenceRest (IsReferred T s)) b r
+    → TakesPhrase (IsReferred T s) a r
 reference_takes T s a b r sign (front, h, whole) =
     let k = rest_of T s front h in
     takes_as (Then (IsSign 38) (IsReferenceRest (IsBehind k.0 T s))) (IsReferred T s) a r (λ t g. (suc k.0, g)) (takes_two (IsSign 38) (IsReferenceRest (IsBehind k.0 T s)) a b r sign (front, k.1, whole))
@@ -57,11 +63,13 @@ apart_ends T s [] r h ends = let head = referred_head T s [] [] ([], h, refl) in
 apart_ends T s (b ∷ back) r h ends = ends
 
 -- The lifetime that is next, or none.
-pub lifetime_next : (T : Types) (s : Schema) (b r : List ℕ) → TakesPhrase (IsReferenceRest (IsReferred T s)) b r → (c : List ℕ) × TakesLifetime b c × TakesPhrase (IsReferred T s) c r
+pub lifetime_next : (T : Types) (s : Schema) (b r : List ℕ) → TakesPhrase (IsReferenceRest (IsReferred T s)) b r
+    → (c : List ℕ) × TakesLifetime b c × TakesPhrase (IsReferred T s) c r
 lifetime_next T s b r (front, inl h, whole) = (b, inl (λ after quote. no_quote T s b after r (front, h, whole) quote, refl), (front, h, whole))
 lifetime_next T s b r (front, inr h, whole) = by (takes_split (IsSign 39) (IsLifetimeRest (IsReferred T s)) b r (front, h, whole))
   where
-    by : (k : List ℕ) × TakesPhrase (IsSign 39) b k × TakesPhrase (IsLifetimeRest (IsReferred T s)) k r → (c : List ℕ) × TakesLifetime b c × TakesPhrase (IsReferred T s) c r
+    by : (k : List ℕ) × TakesPhrase (IsSign 39) b k × TakesPhrase (IsLifetimeRest (IsReferred T s)) k r
+        → (c : List ℕ) × TakesLifetime b c × TakesPhrase (IsReferred T s) c r
     by (k, quote, (f, (name, named, rest), e)) =
         let m = takes_split (IsWord name) (λ back. EndsWord back × IsReferred T s back) k r (f, rest, e) in
         let ends = subst EndsWord (sym m.2.2) (apart_ends T s m.2.0 r m.2.1.1 m.2.1.0) in
@@ -91,7 +99,8 @@ lifetime_left T s b c r taken h = let k = lifetime_next T s b r h in subst (λ t
 
 -- A type after the lifetime is what follows the `&`.
 pub lifetime_takes : (T : Types) (s : Schema) (b c r : List ℕ) → TakesLifetime b c → TakesPhrase (IsReferred T s) c r → TakesPhrase (IsReferenceRest (IsReferred T s)) b r
-lifetime_takes T s b c r (inl (none, same)) h = takes_as (IsReferred T s) (IsReferenceRest (IsReferred T s)) b r (λ t k. inl k) (subst (λ t. TakesPhrase (IsReferred T s) t r) same h)
+lifetime_takes T s b c r (inl (none, same)) h =
+    takes_as (IsReferred T s) (IsReferenceRest (IsReferred T s)) b r (λ t k. inl k) (subst (λ t. TakesPhrase (IsReferred T s) t r) same h)
 lifetime_takes T s b c r (inr (k, name, named, quote, word, ends)) (back, h, e) =
     let apart : EndsWord back = front_ends back r (subst EndsWord e ends) in
     takes_as (Then (IsSign 39) (IsLifetimeRest (IsReferred T s))) (IsReferenceRest (IsReferred T s)) b r (λ t q. inr q)

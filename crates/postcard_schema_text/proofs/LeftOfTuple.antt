@@ -29,7 +29,8 @@ tuple_end_goes n a r (front, inl h, whole) = let k = takes_split (IsSign 44) (Is
 tuple_end_goes n a r (front, inr (many, h), whole) = inr (41, r, refl, (front, h, whole))
 
 -- A tuple is `)` alone, or begins with a type.
-pub tuple_front : (d : ℕ) (s : Schema) (a r : List ℕ) → TakesPhrase (IsTupleRest (IsType d) s) a r → ((type_of s ≡ group no_types) × TakesPhrase (IsSign 41) a r) ⊎ TupleFront d s a r
+pub tuple_front : (d : ℕ) (s : Schema) (a r : List ℕ) → TakesPhrase (IsTupleRest (IsType d) s) a r
+    → ((type_of s ≡ group no_types) × TakesPhrase (IsSign 41) a r) ⊎ TupleFront d s a r
 tuple_front d s a r (front, inl (v, is, none, close), whole) = inl (ap type_of is ∙ type_of_tuple v ∙ ap (λ ss. group (types_of ss)) none, (front, close, whole))
 tuple_front d s a r (front, inr (inl h), whole) =
     let k = takes_split (IsType d s) (IsSign 41) a r (front, h, whole) in
@@ -46,7 +47,8 @@ tuple_front d s a r (front, inr (inr (v, is, h)), whole) =
     }
 
 -- After a `)` nothing is left.
-pub tuple_empty : (d : ℕ) (s : Schema) (a e r : List ℕ) → TakesPhrase (IsTupleRest (IsType d) s) a r → TakesPhrase (IsSign 41) a e → (type_of s ≡ group no_types) × (r ≡ e)
+pub tuple_empty : (d : ℕ) (s : Schema) (a e r : List ℕ) → TakesPhrase (IsTupleRest (IsType d) s) a r → TakesPhrase (IsSign 41) a e
+    → (type_of s ≡ group no_types) × (r ≡ e)
 tuple_empty d s a e r h close = elim (tuple_front d s a r h) [
   | inl k ↦ (k.0, after_sign 41 a r e refl k.1 close)
   | inr f ↦ absurd (type_not_close d f.first a f.rest e f.taken close)
@@ -72,11 +74,13 @@ pub record TupleAfter (d : ℕ) (done : List Schema) (s : Schema) (a r : List �
 
 -- The end of a tuple of one part has a `,`.
 tuple_end_one : (n : ℕ) (a e r : List ℕ) → n ≡ 1 → TakesPhrase (IsTupleEnd n) a r → TakesPhrase (IsSign 41) a e → ⊥
-tuple_end_one n a e r one (front, inl h, whole) close = let k = takes_split (IsSign 44) (IsSign 41) a r (front, h, whole) in other_sign 44 41 a k.0 e refl refl refl k.1 close
+tuple_end_one n a e r one (front, inl h, whole) close =
+    let k = takes_split (IsSign 44) (IsSign 41) a r (front, h, whole) in other_sign 44 41 a k.0 e refl refl refl k.1 close
 tuple_end_one n a e r one (front, inr (many, h), whole) close = omega (arith, one, many)
 
 -- After the first type and a `)`, the whole is that type; x is the type that was taken.
-pub tuple_single : (d : ℕ) (s x : Schema) (a c e r : List ℕ) → IsOnlyFront SameType (GoesOnBy follows_type) (IsType d) x a c → TupleFront d s a r → TakesPhrase (IsSign 41) c e → (type_of s ≡ type_of x) × (r ≡ e)
+pub tuple_single : (d : ℕ) (s x : Schema) (a c e r : List ℕ) → IsOnlyFront SameType (GoesOnBy follows_type) (IsType d) x a c → TupleFront d s a r
+    → TakesPhrase (IsSign 41) c e → (type_of s ≡ type_of x) × (r ≡ e)
 tuple_single d s x a c e r one f close =
     let only = one f.first f.rest f.taken f.goes in
     let here : TakesPhrase (IsSign 41) f.rest e = rw only.1 close in
@@ -87,7 +91,8 @@ tuple_single d s x a c e r one f close =
     ]
 
 -- Otherwise it is a tuple, of which x is the first type.
-pub tuple_after_first : (d : ℕ) (s x : Schema) (a c r : List ℕ) → IsOnlyFront SameType (GoesOnBy follows_type) (IsType d) x a c → TupleFront d s a r → ((e : List ℕ) → TakesPhrase (IsSign 41) c e → ⊥) → TupleAfter d (x ∷ []) s c r
+pub tuple_after_first : (d : ℕ) (s x : Schema) (a c r : List ℕ) → IsOnlyFront SameType (GoesOnBy follows_type) (IsType d) x a c → TupleFront d s a r
+    → ((e : List ℕ) → TakesPhrase (IsSign 41) c e → ⊥) → TupleAfter d (x ∷ []) s c r
 tuple_after_first d s x a c r one f none =
     let only = one f.first f.rest f.taken f.goes in
     elim f.left [
@@ -101,16 +106,19 @@ tuple_after_first d s x a c r one f none =
       }
     ]
 
-tuple_types : (done : List Schema) (s : Schema) (v : Vec Schema Global) (a k : List ℕ) → type_of s ≡ group (types_of v.items) → RowEnds SameType done v.items a k → type_of s ≡ group (types_of done)
+tuple_types : (done : List Schema) (s : Schema) (v : Vec Schema Global) (a k : List ℕ) → type_of s ≡ group (types_of v.items)
+    → RowEnds SameType done v.items a k → type_of s ≡ group (types_of done)
 tuple_types done s v a k is h = is ∙ ap group (alike_types v.items done h.alike)
 
 -- The end of a tuple begins with a `,`, or with a `)` that ends it.
-end_sign : (n : ℕ) (a k r : List ℕ) → a ≡ k → TakesPhrase (IsTupleEnd n) k r → ((m : List ℕ) × TakesPhrase (IsSign 44) a m × TakesPhrase (IsSign 41) m r) ⊎ TakesPhrase (IsSign 41) a r
+end_sign : (n : ℕ) (a k r : List ℕ) → a ≡ k → TakesPhrase (IsTupleEnd n) k r
+    → ((m : List ℕ) × TakesPhrase (IsSign 44) a m × TakesPhrase (IsSign 41) m r) ⊎ TakesPhrase (IsSign 41) a r
 end_sign n a k r same (front, inl h, whole) = inl (takes_split (IsSign 44) (IsSign 41) a r (front, h, same ∙ whole))
 end_sign n a k r same (front, inr (many, h), whole) = inr (front, h, same ∙ whole)
 
 -- After a type comes `,` or `)`.
-pub tuple_go_on : (d : ℕ) (done : List Schema) (s : Schema) (a r : List ℕ) → TupleAfter d done s a r → ((e : List ℕ) → TakesPhrase (IsSign 41) a e → ⊥) → ((e : List ℕ) → TakesPhrase (IsSign 44) a e → ⊥) → ⊥
+pub tuple_go_on : (d : ℕ) (done : List Schema) (s : Schema) (a r : List ℕ) → TupleAfter d done s a r
+    → ((e : List ℕ) → TakesPhrase (IsSign 41) a e → ⊥) → ((e : List ℕ) → TakesPhrase (IsSign 44) a e → ⊥) → ⊥
 tuple_go_on d done s a r h no_close no_comma =
     let ends = row_ends (IsType d) 44 SameType done h.parts.items a h.end h.row no_comma in
     elim (end_sign (length h.parts.items) a h.end r ends.same h.takes_end) [
@@ -119,7 +127,8 @@ tuple_go_on d done s a r h no_close no_comma =
     ]
 
 -- After a type and `)` nothing is left.
-pub tuple_close : (d : ℕ) (done : List Schema) (s : Schema) (a e r : List ℕ) → TupleAfter d done s a r → TakesPhrase (IsSign 41) a e → (type_of s ≡ group (types_of done)) × (r ≡ e)
+pub tuple_close : (d : ℕ) (done : List Schema) (s : Schema) (a e r : List ℕ) → TupleAfter d done s a r → TakesPhrase (IsSign 41) a e
+    → (type_of s ≡ group (types_of done)) × (r ≡ e)
 tuple_close d done s a e r h close =
     let no_comma = λ (m : List ℕ) (comma : TakesPhrase (IsSign 44) a m). other_sign 44 41 a m e refl refl refl comma close in
     let ends = row_ends (IsType d) 44 SameType done h.parts.items a h.end h.row no_comma in (
@@ -153,20 +162,23 @@ tuple_comma d done s a c r h comma = elim (row_goes (IsType d) 44 SameType done 
 ]
 
 -- After `,` and `)` nothing is left.
-pub tuple_comma_close : (d : ℕ) (done : List Schema) (s : Schema) (a c e r : List ℕ) → TupleAfter d done s a r → TakesPhrase (IsSign 44) a c → TakesPhrase (IsSign 41) c e → (type_of s ≡ group (types_of done)) × (r ≡ e)
+pub tuple_comma_close : (d : ℕ) (done : List Schema) (s : Schema) (a c e r : List ℕ) → TupleAfter d done s a r → TakesPhrase (IsSign 44) a c
+    → TakesPhrase (IsSign 41) c e → (type_of s ≡ group (types_of done)) × (r ≡ e)
 tuple_comma_close d done s a c e r h comma close = elim (tuple_comma d done s a c r h comma) [
   | inl k ↦ (k.0, after_sign 41 c r e refl k.1 close)
   | inr k ↦ (let f = row_front (IsType d) 44 SameType done k.parts.items c k.end k.row in absurd (type_not_close d f.first c f.rest e f.taken close))
 ]
 
 -- After a `,` and without a `)` a type is next.
-pub tuple_next : (d : ℕ) (done : List Schema) (s : Schema) (a c r : List ℕ) → TupleAfter d done s a r → TakesPhrase (IsSign 44) a c → ((e : List ℕ) → TakesPhrase (IsSign 41) c e → ⊥) → TupleLeft d done s c r
+pub tuple_next : (d : ℕ) (done : List Schema) (s : Schema) (a c r : List ℕ) → TupleAfter d done s a r → TakesPhrase (IsSign 44) a c
+    → ((e : List ℕ) → TakesPhrase (IsSign 41) c e → ⊥) → TupleLeft d done s c r
 tuple_next d done s a c r h comma none = elim (tuple_comma d done s a c r h comma) [
   | inl k ↦ absurd (none r k.1)
   | inr k ↦ k
 ]
 
-next_goes : (d : ℕ) (done : List Schema) (s : Schema) (a r : List ℕ) → (h : TupleLeft d done s a r) → (f : RowFront (IsType d) 44 SameType done h.parts.items a h.end) → GoesOnBy follows_type f.rest
+next_goes : (d : ℕ) (done : List Schema) (s : Schema) (a r : List ℕ) → (h : TupleLeft d done s a r)
+    → (f : RowFront (IsType d) 44 SameType done h.parts.items a h.end) → GoesOnBy follows_type f.rest
 next_goes d done s a r h f = row_follows (IsType d) 44 follows_type f.more f.rest h.end refl f.left (tuple_end_goes (length h.parts.items) h.end r h.takes_end)
 
 pub tuple_next_begins : (d : ℕ) (done : List Schema) (s : Schema) (a r : List ℕ) → TupleLeft d done s a r → HasFront (GoesOnBy follows_type) (IsType d) a
@@ -175,7 +187,8 @@ tuple_next_begins d done s a r h =
     (f.first, f.rest, f.taken, next_goes d done s a r h f)
 
 -- What is left after the next type, which is x.
-pub tuple_after : (d : ℕ) (done : List Schema) (s x : Schema) (a c r : List ℕ) → TupleLeft d done s a r → IsOnlyFront SameType (GoesOnBy follows_type) (IsType d) x a c → TupleAfter d (done ++ x ∷ []) s c r
+pub tuple_after : (d : ℕ) (done : List Schema) (s x : Schema) (a c r : List ℕ) → TupleLeft d done s a r
+    → IsOnlyFront SameType (GoesOnBy follows_type) (IsType d) x a c → TupleAfter d (done ++ x ∷ []) s c r
 tuple_after d done s x a c r h one =
     let f = row_front (IsType d) 44 SameType done h.parts.items a h.end h.row in
     let only = one f.first f.rest f.taken (next_goes d done s a r h f) in

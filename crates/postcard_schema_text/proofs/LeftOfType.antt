@@ -23,7 +23,8 @@ abbrev Types : Type 1
 Types = Schema → List ℕ → Type 0
 
 -- A word that has been taken, if it is filled, is at no sign.
-word_not_sign : (v : List ℕ) (sign : ℕ) (a b r : List ℕ) → 0 < length v → is_ascii_whitespace sign ≡ false → is_of_word sign ≡ false → WordTaken a v b → TakesPhrase (IsSign sign) a r → ⊥
+word_not_sign : (v : List ℕ) (sign : ℕ) (a b r : List ℕ) → 0 < length v → is_ascii_whitespace sign ≡ false → is_of_word sign ≡ false → WordTaken a v b
+    → TakesPhrase (IsSign sign) a r → ⊥
 word_not_sign [] sign a b r filled black none taken h = absurd (omega (arith, filled))
 word_not_sign (x ∷ v) sign a b r filled black none taken h =
     let same = same_first (sym taken.first ∙ sign_unblank sign a r black h) in
@@ -60,12 +61,14 @@ word_front T s a v b r taken ends (front, (k, name, named, h), whole) =
     }
 
 -- What is left after a word that stands for k.
-pub word_rest : (T : Types) (k : TypeName) (s : Schema) (a v b r : List ℕ) → WordTaken a v b → IsTypeName v k → EndsWord r → TakesPhrase (IsWorded T s) a r → TakesPhrase (IsNamedRest T k s) b r
+pub word_rest : (T : Types) (k : TypeName) (s : Schema) (a v b r : List ℕ) → WordTaken a v b → IsTypeName v k → EndsWord r
+    → TakesPhrase (IsWorded T s) a r → TakesPhrase (IsNamedRest T k s) b r
 word_rest T k s a v b r taken named ends h =
     let f = word_front T s a v b r taken ends h in
     subst (λ z. TakesPhrase (IsNamedRest T z s) b r) (one_name v f.kind k f.named named) f.left
 
-pub word_takes : (T : Types) (k : TypeName) (s : Schema) (v a b r : List ℕ) → IsTypeName v k → TakesPhrase (IsWord v) a b → TakesPhrase (IsNamedRest T k s) b r → TakesPhrase (IsWorded T s) a r
+pub word_takes : (T : Types) (k : TypeName) (s : Schema) (v a b r : List ℕ) → IsTypeName v k → TakesPhrase (IsWord v) a b
+    → TakesPhrase (IsNamedRest T k s) b r → TakesPhrase (IsWorded T s) a r
 word_takes T k s v a b r named word h =
     takes_as (Then (IsWord v) (IsNamedRest T k s)) (IsWorded T s) a r (λ t q. (k, v, named, q)) (takes_two (IsWord v) (IsNamedRest T k s) a b r word h)
 
@@ -87,13 +90,18 @@ question_no_colon zero m r c goes same colon = not_next_type 58 r c refl refl go
 question_no_colon (suc n) m r c goes (k, sign, more) colon = other_sign 63 58 m k c refl refl refl sign colon
 
 -- Where a filled word is next, a type that is no enum begins with its name, after which it ends or `<` comes.
-plain_word : (T : Types) (s : Schema) (a v b m : List ℕ) → 0 < length v → WordTaken a v b → EndsWord m → TakesPhrase (IsPlain T s) a m → (b ≡ m) ⊎ ((c : List ℕ) × TakesPhrase (IsSign 60) b c)
+plain_word : (T : Types) (s : Schema) (a v b m : List ℕ) → 0 < length v → WordTaken a v b → EndsWord m → TakesPhrase (IsPlain T s) a m
+    → (b ≡ m) ⊎ ((c : List ℕ) × TakesPhrase (IsSign 60) b c)
 plain_word T s a v b m filled taken ends (front, inl h, whole) = let f = word_front T s a v b m taken ends (front, h, whole) in name_end T f.kind s b m f.left
-plain_word T s a v b m filled taken ends (front, inr (inl h), whole) = let k = takes_split (IsSign 91) (IsListRest T s) a m (front, h, whole) in absurd (word_not_sign v 91 a b k.0 filled refl refl taken k.1)
-plain_word T s a v b m filled taken ends (front, inr (inr (inl h)), whole) = let k = takes_split (IsSign 40) (IsTupleRest T s) a m (front, h, whole) in absurd (word_not_sign v 40 a b k.0 filled refl refl taken k.1)
-plain_word T s a v b m filled taken ends (front, inr (inr (inr h)), whole) = let k = takes_split (IsSign 123) (IsBracesRest T s) a m (front, h, whole) in absurd (word_not_sign v 123 a b k.0 filled refl refl taken k.1)
+plain_word T s a v b m filled taken ends (front, inr (inl h), whole) =
+    let k = takes_split (IsSign 91) (IsListRest T s) a m (front, h, whole) in absurd (word_not_sign v 91 a b k.0 filled refl refl taken k.1)
+plain_word T s a v b m filled taken ends (front, inr (inr (inl h)), whole) =
+    let k = takes_split (IsSign 40) (IsTupleRest T s) a m (front, h, whole) in absurd (word_not_sign v 40 a b k.0 filled refl refl taken k.1)
+plain_word T s a v b m filled taken ends (front, inr (inr (inr h)), whole) =
+    let k = takes_split (IsSign 123) (IsBracesRest T s) a m (front, h, whole) in absurd (word_not_sign v 123 a b k.0 filled refl refl taken k.1)
 
-referred_word : (T : Types) (s : Schema) (a v b m : List ℕ) → 0 < length v → WordTaken a v b → EndsWord m → TakesPhrase (IsReferred T s) a m → (b ≡ m) ⊎ ((c : List ℕ) × TakesPhrase (IsSign 60) b c)
+referred_word : (T : Types) (s : Schema) (a v b m : List ℕ) → 0 < length v → WordTaken a v b → EndsWord m → TakesPhrase (IsReferred T s) a m
+    → (b ≡ m) ⊎ ((c : List ℕ) × TakesPhrase (IsSign 60) b c)
 referred_word T s a v b m filled taken ends (front, (zero, h), whole) = plain_word T s a v b m filled taken ends (front, h, whole)
 referred_word T s a v b m filled taken ends (front, (suc n, h), whole) =
     let k = takes_split (IsSign 38) (IsReferenceRest (IsBehind n T s)) a m (front, h, whole) in absurd (word_not_sign v 38 a b k.0 filled refl refl taken k.1)
@@ -101,13 +109,15 @@ referred_word T s a v b m filled taken ends (front, (suc n, h), whole) =
 -- A type that is no enum doesn't begin as one.
 referred_no_enum : (T : Types) (s : Schema) (a m : List ℕ) → EndsWord m → (Starts follows_name m → ⊥) → StartsEnum a → TakesPhrase (IsReferred T s) a m → ⊥
 referred_no_enum T s a m ends none (inl (rest, bar)) h = starts_not_by starts_referred 124 a rest refl refl (referred_head T s a m h) bar
-referred_no_enum T s a m ends none (inr (v, b, named, word, next)) h = elim (referred_word T s a v b m named.0 (taken_whole v a b named.0 word (name_ends_word b next)) ends h) [
-  | inl same ↦ none (subst (Starts follows_name) same next)
-  | inr (c, sign) ↦ starts_not_by follows_name 60 b c refl refl next sign
-]
+referred_no_enum T s a m ends none (inr (v, b, named, word, next)) h =
+    elim (referred_word T s a v b m named.0 (taken_whole v a b named.0 word (name_ends_word b next)) ends h) [
+      | inl same ↦ none (subst (Starts follows_name) same next)
+      | inr (c, sign) ↦ starts_not_by follows_name 60 b c refl refl next sign
+    ]
 
 -- A text that begins as an enum is one.
-pub type_as_enum : (d e : ℕ) (s : Schema) (a r : List ℕ) → d ≡ suc e → StartsEnum a → GoesOnBy follows_type r → TakesPhrase (IsType d s) a r → TakesPhrase (IsEnumText (IsType e) s) a r
+pub type_as_enum : (d e : ℕ) (s : Schema) (a r : List ℕ) → d ≡ suc e → StartsEnum a → GoesOnBy follows_type r → TakesPhrase (IsType d s) a r
+    → TakesPhrase (IsEnumText (IsType e) s) a r
 unfolding IsType
 type_as_enum d e s a r deep starts goes h = by (subst (λ n. TakesPhrase (IsType n s) a r) deep h)
   where
@@ -129,7 +139,8 @@ enum_if text v b r none taken word named decides = (λ e. inr (v, b, named, word
     by (inl (rest, bar)) = absurd (none rest bar)
     by (inr (w, a, other, h, next)) = decides.1 (subst (Starts follows_name) (whole_word w v text b a other.0 taken h (name_ends_word a next)).1 next)
 
-pub enum_unless : (text v b : List ℕ) → ((e : List ℕ) → TakesPhrase (IsSign 124) text e → ⊥) → WordTaken text v b → (IsVariantName v → ⊥) → Decides false (StartsEnum text)
+pub enum_unless : (text v b : List ℕ) → ((e : List ℕ) → TakesPhrase (IsSign 124) text e → ⊥) → WordTaken text v b → (IsVariantName v → ⊥)
+    → Decides false (StartsEnum text)
 enum_unless text v b none taken lacks = (λ e. absurd (true≢false (sym e)), by)
   where
     by : StartsEnum text → false ≡ true
@@ -151,7 +162,8 @@ pub record PlainFront (T : Types) (s : Schema) (a r : List ℕ) : Type 0 where
   pub ends : EndsWord rest
   pub left : OptionsLeft s (type_of first) 0 rest r
 
-pub type_as_plain : (d e : ℕ) (s : Schema) (a r : List ℕ) → d ≡ suc e → (StartsEnum a → ⊥) → GoesOnBy follows_type r → TakesPhrase (IsType d s) a r → PlainFront (IsType e) s a r
+pub type_as_plain : (d e : ℕ) (s : Schema) (a r : List ℕ) → d ≡ suc e → (StartsEnum a → ⊥) → GoesOnBy follows_type r → TakesPhrase (IsType d s) a r
+    → PlainFront (IsType e) s a r
 unfolding IsType
 type_as_plain d e s a r deep none goes h = by (subst (λ n. TakesPhrase (IsType n s) a r) deep h)
   where
@@ -162,7 +174,8 @@ type_as_plain d e s a r deep none goes h = by (subst (λ n. TakesPhrase (IsType 
         record { first = split.0; rest = split.1; taken = split.2; ends = question_ends n split.1 r goes split.4; left = record { more = n; few = omega (arith, few); is = split.3; signs = split.4 } }
 
 -- After a `?` one less is left.
-pub options_step : (s : Schema) (t : MessageType) (k : ℕ) (a b r : List ℕ) → OptionsLeft s t k a r → GoesOnBy follows_type r → TakesPhrase (IsSign 63) a b → OptionsLeft s (option t) (k + 1) b r
+pub options_step : (s : Schema) (t : MessageType) (k : ℕ) (a b r : List ℕ) → OptionsLeft s t k a r → GoesOnBy follows_type r
+    → TakesPhrase (IsSign 63) a b → OptionsLeft s (option t) (k + 1) b r
 options_step s t k a b r h goes sign = by h.more h.few h.is h.signs
   where
     by : (n : ℕ) → k + n ≤ 4 → type_of s ≡ in_options n t → Signs 63 n a r → OptionsLeft s (option t) (k + 1) b r
@@ -170,7 +183,8 @@ options_step s t k a b r h goes sign = by h.more h.few h.is h.signs
     by (suc n) few is (m, first, more) = record { more = n; few = omega (arith, few); is = is; signs = subst (λ x. Signs 63 n x r) (after_sign 63 a m b refl first sign) more }
 
 -- Without a `?` none is left.
-pub options_end : (s : Schema) (t : MessageType) (k : ℕ) (a r : List ℕ) → OptionsLeft s t k a r → ((b : List ℕ) → TakesPhrase (IsSign 63) a b → ⊥) → (type_of s ≡ t) × (r ≡ a)
+pub options_end : (s : Schema) (t : MessageType) (k : ℕ) (a r : List ℕ) → OptionsLeft s t k a r → ((b : List ℕ) → TakesPhrase (IsSign 63) a b → ⊥)
+    → (type_of s ≡ t) × (r ≡ a)
 options_end s t k a r h none = by h.more h.is h.signs
   where
     by : (n : ℕ) → type_of s ≡ in_options n t → Signs 63 n a r → (type_of s ≡ t) × (r ≡ a)
@@ -188,40 +202,60 @@ options_of s x t k a b r same e h = record { more = h.more; few = h.few; is = h.
 -- What is left after the bracket of a type.
 pub plain_list_left : (T : Types) (s : Schema) (a b r : List ℕ) → TakesPhrase (IsPlain T s) a r → TakesPhrase (IsSign 91) a b → TakesPhrase (IsListRest T s) b r
 plain_list_left T s a b r (front, inl h, whole) sign = absurd (starts_not_by is_of_word 91 a b refl refl (worded_head T s a r (front, h, whole)) sign)
-plain_list_left T s a b r (front, inr (inl k), whole) sign = let m = takes_split (IsSign 91) (IsListRest T s) a r (front, k, whole) in subst (λ t. TakesPhrase (IsListRest T s) t r) (after_sign 91 a m.0 b refl m.1 sign) m.2
-plain_list_left T s a b r (front, inr (inr (inl k)), whole) sign = let m = takes_split (IsSign 40) (IsTupleRest T s) a r (front, k, whole) in absurd (other_sign 40 91 a m.0 b refl refl refl m.1 sign)
-plain_list_left T s a b r (front, inr (inr (inr k)), whole) sign = let m = takes_split (IsSign 123) (IsBracesRest T s) a r (front, k, whole) in absurd (other_sign 123 91 a m.0 b refl refl refl m.1 sign)
+plain_list_left T s a b r (front, inr (inl k), whole) sign =
+    let m = takes_split (IsSign 91) (IsListRest T s) a r (front, k, whole) in
+    subst (λ t. TakesPhrase (IsListRest T s) t r) (after_sign 91 a m.0 b refl m.1 sign) m.2
+plain_list_left T s a b r (front, inr (inr (inl k)), whole) sign =
+    let m = takes_split (IsSign 40) (IsTupleRest T s) a r (front, k, whole) in absurd (other_sign 40 91 a m.0 b refl refl refl m.1 sign)
+plain_list_left T s a b r (front, inr (inr (inr k)), whole) sign =
+    let m = takes_split (IsSign 123) (IsBracesRest T s) a r (front, k, whole) in absurd (other_sign 123 91 a m.0 b refl refl refl m.1 sign)
 
 pub plain_tuple_left : (T : Types) (s : Schema) (a b r : List ℕ) → TakesPhrase (IsPlain T s) a r → TakesPhrase (IsSign 40) a b → TakesPhrase (IsTupleRest T s) b r
 plain_tuple_left T s a b r (front, inl h, whole) sign = absurd (starts_not_by is_of_word 40 a b refl refl (worded_head T s a r (front, h, whole)) sign)
-plain_tuple_left T s a b r (front, inr (inl k), whole) sign = let m = takes_split (IsSign 91) (IsListRest T s) a r (front, k, whole) in absurd (other_sign 91 40 a m.0 b refl refl refl m.1 sign)
-plain_tuple_left T s a b r (front, inr (inr (inl k)), whole) sign = let m = takes_split (IsSign 40) (IsTupleRest T s) a r (front, k, whole) in subst (λ t. TakesPhrase (IsTupleRest T s) t r) (after_sign 40 a m.0 b refl m.1 sign) m.2
-plain_tuple_left T s a b r (front, inr (inr (inr k)), whole) sign = let m = takes_split (IsSign 123) (IsBracesRest T s) a r (front, k, whole) in absurd (other_sign 123 40 a m.0 b refl refl refl m.1 sign)
+plain_tuple_left T s a b r (front, inr (inl k), whole) sign =
+    let m = takes_split (IsSign 91) (IsListRest T s) a r (front, k, whole) in absurd (other_sign 91 40 a m.0 b refl refl refl m.1 sign)
+plain_tuple_left T s a b r (front, inr (inr (inl k)), whole) sign =
+    let m = takes_split (IsSign 40) (IsTupleRest T s) a r (front, k, whole) in
+    subst (λ t. TakesPhrase (IsTupleRest T s) t r) (after_sign 40 a m.0 b refl m.1 sign) m.2
+plain_tuple_left T s a b r (front, inr (inr (inr k)), whole) sign =
+    let m = takes_split (IsSign 123) (IsBracesRest T s) a r (front, k, whole) in absurd (other_sign 123 40 a m.0 b refl refl refl m.1 sign)
 
 pub plain_braces_left : (T : Types) (s : Schema) (a b r : List ℕ) → TakesPhrase (IsPlain T s) a r → TakesPhrase (IsSign 123) a b → TakesPhrase (IsBracesRest T s) b r
 plain_braces_left T s a b r (front, inl h, whole) sign = absurd (starts_not_by is_of_word 123 a b refl refl (worded_head T s a r (front, h, whole)) sign)
-plain_braces_left T s a b r (front, inr (inl k), whole) sign = let m = takes_split (IsSign 91) (IsListRest T s) a r (front, k, whole) in absurd (other_sign 91 123 a m.0 b refl refl refl m.1 sign)
-plain_braces_left T s a b r (front, inr (inr (inl k)), whole) sign = let m = takes_split (IsSign 40) (IsTupleRest T s) a r (front, k, whole) in absurd (other_sign 40 123 a m.0 b refl refl refl m.1 sign)
-plain_braces_left T s a b r (front, inr (inr (inr k)), whole) sign = let m = takes_split (IsSign 123) (IsBracesRest T s) a r (front, k, whole) in subst (λ t. TakesPhrase (IsBracesRest T s) t r) (after_sign 123 a m.0 b refl m.1 sign) m.2
+plain_braces_left T s a b r (front, inr (inl k), whole) sign =
+    let m = takes_split (IsSign 91) (IsListRest T s) a r (front, k, whole) in absurd (other_sign 91 123 a m.0 b refl refl refl m.1 sign)
+plain_braces_left T s a b r (front, inr (inr (inl k)), whole) sign =
+    let m = takes_split (IsSign 40) (IsTupleRest T s) a r (front, k, whole) in absurd (other_sign 40 123 a m.0 b refl refl refl m.1 sign)
+plain_braces_left T s a b r (front, inr (inr (inr k)), whole) sign =
+    let m = takes_split (IsSign 123) (IsBracesRest T s) a r (front, k, whole) in
+    subst (λ t. TakesPhrase (IsBracesRest T s) t r) (after_sign 123 a m.0 b refl m.1 sign) m.2
 
 -- Without a bracket a type begins with a word.
-pub plain_word_left : (T : Types) (s : Schema) (a r : List ℕ) → ((c : List ℕ) → TakesPhrase (IsSign 91) a c → ⊥) → ((c : List ℕ) → TakesPhrase (IsSign 40) a c → ⊥) → ((c : List ℕ) → TakesPhrase (IsSign 123) a c → ⊥)
+pub plain_word_left : (T : Types) (s : Schema) (a r : List ℕ) → ((c : List ℕ) → TakesPhrase (IsSign 91) a c → ⊥)
+    → ((c : List ℕ) → TakesPhrase (IsSign 40) a c → ⊥) → ((c : List ℕ) → TakesPhrase (IsSign 123) a c → ⊥)
     → TakesPhrase (IsPlain T s) a r → TakesPhrase (IsWorded T s) a r
 plain_word_left T s a r no_list no_tuple no_braces (front, inl h, whole) = (front, h, whole)
-plain_word_left T s a r no_list no_tuple no_braces (front, inr (inl k), whole) = let m = takes_split (IsSign 91) (IsListRest T s) a r (front, k, whole) in absurd (no_list m.0 m.1)
-plain_word_left T s a r no_list no_tuple no_braces (front, inr (inr (inl k)), whole) = let m = takes_split (IsSign 40) (IsTupleRest T s) a r (front, k, whole) in absurd (no_tuple m.0 m.1)
-plain_word_left T s a r no_list no_tuple no_braces (front, inr (inr (inr k)), whole) = let m = takes_split (IsSign 123) (IsBracesRest T s) a r (front, k, whole) in absurd (no_braces m.0 m.1)
+plain_word_left T s a r no_list no_tuple no_braces (front, inr (inl k), whole) =
+    let m = takes_split (IsSign 91) (IsListRest T s) a r (front, k, whole) in absurd (no_list m.0 m.1)
+plain_word_left T s a r no_list no_tuple no_braces (front, inr (inr (inl k)), whole) =
+    let m = takes_split (IsSign 40) (IsTupleRest T s) a r (front, k, whole) in absurd (no_tuple m.0 m.1)
+plain_word_left T s a r no_list no_tuple no_braces (front, inr (inr (inr k)), whole) =
+    let m = takes_split (IsSign 123) (IsBracesRest T s) a r (front, k, whole) in absurd (no_braces m.0 m.1)
 
 -- No type begins with a word and a `:`.
-type_not_named : (d : ℕ) (s : Schema) (a v b c m : List ℕ) → TakesPhrase (IsType d s) a m → GoesOnBy follows_type m → WordTaken a v b → 0 < length v → TakesPhrase (IsSign 58) b c → ⊥
+type_not_named : (d : ℕ) (s : Schema) (a v b c m : List ℕ) → TakesPhrase (IsType d s) a m → GoesOnBy follows_type m → WordTaken a v b → 0 < length v
+    → TakesPhrase (IsSign 58) b c → ⊥
 unfolding IsType
 type_not_named zero s a v b c m (front, none, whole) goes taken filled colon = none
-type_not_named (suc d) s a v b c m (front, inl (vs, is, differ, h), whole) goes taken filled colon = by_lead (takes_split (IsLead (length vs.items)) (Separated (IsVariantText (IsType d)) 124 vs.items) a m (front, h, whole))
+type_not_named (suc d) s a v b c m (front, inl (vs, is, differ, h), whole) goes taken filled colon =
+    by_lead (takes_split (IsLead (length vs.items)) (Separated (IsVariantText (IsType d)) 124 vs.items) a m (front, h, whole))
   where
     by_content : (x : Schema) (k : List ℕ) → GoesOnBy follows_variant k → TakesPhrase (IsContent (IsType d) x) b k → ⊥
     by_content x k next (f, inl h, e) = let p = takes_split (IsSign 40) (IsTupleRest (IsType d) x) b k (f, h, e) in other_sign 40 58 b p.0 c refl refl refl p.1 colon
-    by_content x k next (f, inr (inl h), e) = let p = takes_split (IsSign 123) (IsFieldsRest (IsType d) x) b k (f, h, e) in other_sign 123 58 b p.0 c refl refl refl p.1 colon
-    by_content x k next (f, inr (inr (v, is, empty, none)), e) = not_next 58 k c refl refl next (subst (λ t. TakesPhrase (IsSign 58) t c) (e ∙ ap (λ t. t ++ k) none) colon)
+    by_content x k next (f, inr (inl h), e) =
+        let p = takes_split (IsSign 123) (IsFieldsRest (IsType d) x) b k (f, h, e) in other_sign 123 58 b p.0 c refl refl refl p.1 colon
+    by_content x k next (f, inr (inr (v, is, empty, none)), e) =
+        not_next 58 k c refl refl next (subst (λ t. TakesPhrase (IsSign 58) t c) (e ∙ ap (λ t. t ++ k) none) colon)
 
     by_lead : (k : List ℕ) × TakesPhrase (IsLead (length vs.items)) a k × TakesPhrase (Separated (IsVariantText (IsType d)) 124 vs.items) k m → ⊥
     by_lead (k, (f, inl sign, e), row) = word_not_sign v 124 a b k filled refl refl taken (f, sign, e)

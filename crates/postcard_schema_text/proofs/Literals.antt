@@ -36,7 +36,8 @@ pub some_left : (bs : List ℕ) → (AllPass is_underscore bs → ⊥) → 0 < l
 some_left [] none = absurd (none (λ k d inside. absurd (omega (arith, inside))))
 some_left (b ∷ bs) none = by (is_underscore b) refl (some_left bs)
   where
-    by : (x : Bool) → is_underscore b ≡ x → ((AllPass is_underscore bs → ⊥) → 0 < length (without_underscores bs)) → 0 < length (cond x (without_underscores bs) (b ∷ without_underscores bs))
+    by : (x : Bool) → is_underscore b ≡ x → ((AllPass is_underscore bs → ⊥) → 0 < length (without_underscores bs))
+        → 0 < length (cond x (without_underscores bs) (b ∷ without_underscores bs))
     by true e rest = rest (λ all. none (pass_cons is_underscore b bs e all))
     by false e rest = omega arith
 
@@ -67,7 +68,8 @@ no_number_as : (P Q : ℕ → Type 0) → ((n : ℕ) → P n → Q n) → ((n : 
 no_number_as P Q to from Malformed none = λ n h. none n (from n h)
 no_number_as P Q to from TooLarge (n, h, large) = (n, to n h, large)
 
-refused_as : {T : Type 0} (P Q : ℕ → Type 0) → ((n : ℕ) → P n → Q n) → ((n : ℕ) → Q n → P n) → (r : Result T LiteralError) → IfErr r (IsNoNumber P) → IfErr r (IsNoNumber Q)
+refused_as : {T : Type 0} (P Q : ℕ → Type 0) → ((n : ℕ) → P n → Q n) → ((n : ℕ) → Q n → P n) → (r : Result T LiteralError) → IfErr r (IsNoNumber P)
+    → IfErr r (IsNoNumber Q)
 refused_as P Q to from (Ok x) h = tt
 refused_as P Q to from (Err e) h = no_number_as P Q to from e h
 
@@ -76,7 +78,8 @@ pub marked_refused : {T : Type 0} (letter : ℕ) (digits text : List ℕ) (r : R
     → IfErr r (λ e. IsNoNumber (λ n. AreDigits (radix_of letter) n digits) e) → IfErr r (λ e. IsNoNumber (λ n. IsLiteral n text) e)
 marked_refused letter digits text r is low h = refused_as _ _ (λ n d. inr (letter, digits, d, is)) (λ n l. marked_is n letter digits text is low l) r h
 
-pub plain_refused : {T : Type 0} (text : List ℕ) (r : Result T LiteralError) → ((letter : ℕ) (digits : List ℕ) → text ≡ 48 ∷ letter ∷ digits → radix_of letter ≡ 0) → get_or text 0 0 ≢ 95
+pub plain_refused : {T : Type 0} (text : List ℕ) (r : Result T LiteralError)
+    → ((letter : ℕ) (digits : List ℕ) → text ≡ 48 ∷ letter ∷ digits → radix_of letter ≡ 0) → get_or text 0 0 ≢ 95
     → IfErr r (λ e. IsNoNumber (λ n. AreDigits 10 n text) e) → IfErr r (λ e. IsNoNumber (λ n. IsLiteral n text) e)
 plain_refused text r none first h = refused_as _ _ (λ n d. inl (first, d)) (λ n l. (plain_is n text none l).1) r h
 

@@ -23,12 +23,14 @@ refusal_as f (inl memory) = inl (f memory)
 refusal_as f (inr none) = inr none
 
 -- The error that a `?` passes on.
-pub refused_err : {R : Type 0} {A : Type 0} (r : Result R ProblemAt) (e : ProblemAt) → IsErrAnd r (λ y. y ≡ e) → IsRefusal e.problem A → IfErr r (λ found. IsRefusal found.problem A)
+pub refused_err : {R : Type 0} {A : Type 0} (r : Result R ProblemAt) (e : ProblemAt) → IsErrAnd r (λ y. y ≡ e) → IsRefusal e.problem A
+    → IfErr r (λ found. IsRefusal found.problem A)
 refused_err (Ok x) e h k = absurd h
 refused_err {R} {A} (Err y) e h k = subst (λ z. IsRefusal z.problem A) (sym h) k
 
 -- A call that reads refuses.
-pub refuses : {A : Type 0} {Same : A → A → Type 0} {Next : List ℕ → Type 0} {P : A → List ℕ → Type 0} {a d : List ℕ} {e : ProblemAt} → IsRefusal e.problem (HasFront Next P a) → Reads Same Next P a (Err e) d
+pub refuses : {A : Type 0} {Same : A → A → Type 0} {Next : List ℕ → Type 0} {P : A → List ℕ → Type 0} {a d : List ℕ} {e : ProblemAt}
+    → IsRefusal e.problem (HasFront Next P a) → Reads Same Next P a (Err e) d
 refuses h = record { spelled = tt; one = tt; refused = h }
 
 -- The same of the error that a `?` passes on.
@@ -64,8 +66,10 @@ is_empty [] h = refl
 is_empty (x ∷ xs) h = absurd (omega (arith, h))
 
 -- A new field or variant is one, and its name is new.
-pub forget_new : (before : List (Named Schema)) (P : Named Schema → List ℕ → Type 0) (n : Named Schema) (a b : List ℕ) → TakesPhrase (IsNew before P n) a b → TakesPhrase (P n) a b
+pub forget_new : (before : List (Named Schema)) (P : Named Schema → List ℕ → Type 0) (n : Named Schema) (a b : List ℕ)
+    → TakesPhrase (IsNew before P n) a b → TakesPhrase (P n) a b
 forget_new before P n a b (front, (new, h), whole) = (front, h, whole)
 
-pub is_new : (before : List (Named Schema)) (P : Named Schema → List ℕ → Type 0) (n : Named Schema) (a b : List ℕ) → TakesPhrase (IsNew before P n) a b → IsNewTo before (string_bytes n.name)
+pub is_new : (before : List (Named Schema)) (P : Named Schema → List ℕ → Type 0) (n : Named Schema) (a b : List ℕ)
+    → TakesPhrase (IsNew before P n) a b → IsNewTo before (string_bytes n.name)
 is_new before P n a b (front, (new, h), whole) = new

@@ -23,10 +23,12 @@ type_options d e n s a c deep few (x, h, g) = rw deep (x, inr (n, few, h), g)
 -- Taking one more `?` takes one more option.
 pub options_more : (P : Schema → List ℕ → Type 0) (n m : ℕ) (s : Schema) (held : Box Schema Global) (a b c : List ℕ) → m ≡ suc n → held.value ≡ s
     → TakesPhrase (IsOptions n P s) a b → TakesPhrase (IsSign 63) b c → TakesPhrase (IsOptions m P (Option held)) a c
-options_more P n m s held a b c next is options sign = rw next (takes_as _ _ a c (λ t h. (held, refl, rw is h)) (takes_two (IsOptions n P s) (IsSign 63) a b c options sign))
+options_more P n m s held a b c next is options sign =
+    rw next (takes_as _ _ a c (λ t h. (held, refl, rw is h)) (takes_two (IsOptions n P s) (IsSign 63) a b c options sign))
 
 -- Taking a `|`, or nothing before two variants or more, takes what may stand before variants.
-lead_takes : (n : ℕ) (leads : Bool) (a b : List ℕ) → ((leads ≡ true) ⊎ (1 < n)) → (leads ≡ true → TakesPhrase (IsSign 124) a b) → (leads ≡ false → b ≡ a) → TakesPhrase (IsLead n) a b
+lead_takes : (n : ℕ) (leads : Bool) (a b : List ℕ) → ((leads ≡ true) ⊎ (1 < n)) → (leads ≡ true → TakesPhrase (IsSign 124) a b)
+    → (leads ≡ false → b ≡ a) → TakesPhrase (IsLead n) a b
 lead_takes n true a b many given none = takes_as (IsSign 124) (IsLead n) a b (λ t h. inl h) (given refl)
 lead_takes n false a b (inl h) given none = cc h
 lead_takes n false a b (inr many) given none = ([], inr (many, refl), sym (none refl))
@@ -77,21 +79,29 @@ array_takes d n s held a c e f g element is full semicolon count close =
     element (takes_two (IsSign 59) (Then (IsCount n) (IsSign 93)) c e g semicolon (takes_two (IsCount n) (IsSign 93) e f g count close)))
 
 -- Taking `[` and what follows it in a list takes a plain type.
-pub plain_list : (T : Schema → List ℕ → Type 0) (s : Schema) (a b c : List ℕ) → TakesPhrase (IsSign 91) a b → TakesPhrase (IsListRest T s) b c → TakesPhrase (IsPlain T s) a c
+pub plain_list : (T : Schema → List ℕ → Type 0) (s : Schema) (a b c : List ℕ) → TakesPhrase (IsSign 91) a b → TakesPhrase (IsListRest T s) b c
+    → TakesPhrase (IsPlain T s) a c
 plain_list T s a b c sign h = takes_as (Then (IsSign 91) (IsListRest T s)) (IsPlain T s) a c (λ t k. inr (inl k)) (takes_two (IsSign 91) (IsListRest T s) a b c sign h)
 
-pub plain_tuple : (T : Schema → List ℕ → Type 0) (s : Schema) (a b c : List ℕ) → TakesPhrase (IsSign 40) a b → TakesPhrase (IsTupleRest T s) b c → TakesPhrase (IsPlain T s) a c
-plain_tuple T s a b c sign h = takes_as (Then (IsSign 40) (IsTupleRest T s)) (IsPlain T s) a c (λ t k. inr (inr (inl k))) (takes_two (IsSign 40) (IsTupleRest T s) a b c sign h)
+pub plain_tuple : (T : Schema → List ℕ → Type 0) (s : Schema) (a b c : List ℕ) → TakesPhrase (IsSign 40) a b → TakesPhrase (IsTupleRest T s) b c
+    → TakesPhrase (IsPlain T s) a c
+plain_tuple T s a b c sign h =
+    takes_as (Then (IsSign 40) (IsTupleRest T s)) (IsPlain T s) a c (λ t k. inr (inr (inl k))) (takes_two (IsSign 40) (IsTupleRest T s) a b c sign h)
 
-pub plain_braces : (T : Schema → List ℕ → Type 0) (s : Schema) (a b c : List ℕ) → TakesPhrase (IsSign 123) a b → TakesPhrase (IsBracesRest T s) b c → TakesPhrase (IsPlain T s) a c
-plain_braces T s a b c sign h = takes_as (Then (IsSign 123) (IsBracesRest T s)) (IsPlain T s) a c (λ t k. inr (inr (inr k))) (takes_two (IsSign 123) (IsBracesRest T s) a b c sign h)
+pub plain_braces : (T : Schema → List ℕ → Type 0) (s : Schema) (a b c : List ℕ) → TakesPhrase (IsSign 123) a b → TakesPhrase (IsBracesRest T s) b c
+    → TakesPhrase (IsPlain T s) a c
+plain_braces T s a b c sign h =
+    takes_as (Then (IsSign 123) (IsBracesRest T s)) (IsPlain T s) a c (λ t k. inr (inr (inr k))) (takes_two (IsSign 123) (IsBracesRest T s) a b c sign h)
 
 -- Taking `(` and what follows it in a tuple takes a variant's content.
-pub content_tuple : (T : Schema → List ℕ → Type 0) (s : Schema) (a b c : List ℕ) → TakesPhrase (IsSign 40) a b → TakesPhrase (IsTupleRest T s) b c → TakesPhrase (IsContent T s) a c
+pub content_tuple : (T : Schema → List ℕ → Type 0) (s : Schema) (a b c : List ℕ) → TakesPhrase (IsSign 40) a b → TakesPhrase (IsTupleRest T s) b c
+    → TakesPhrase (IsContent T s) a c
 content_tuple T s a b c sign h = takes_as (Then (IsSign 40) (IsTupleRest T s)) (IsContent T s) a c (λ t k. inl k) (takes_two (IsSign 40) (IsTupleRest T s) a b c sign h)
 
-pub content_fields : (T : Schema → List ℕ → Type 0) (s : Schema) (a b c : List ℕ) → TakesPhrase (IsSign 123) a b → TakesPhrase (IsFieldsRest T s) b c → TakesPhrase (IsContent T s) a c
-content_fields T s a b c sign h = takes_as (Then (IsSign 123) (IsFieldsRest T s)) (IsContent T s) a c (λ t k. inr (inl k)) (takes_two (IsSign 123) (IsFieldsRest T s) a b c sign h)
+pub content_fields : (T : Schema → List ℕ → Type 0) (s : Schema) (a b c : List ℕ) → TakesPhrase (IsSign 123) a b → TakesPhrase (IsFieldsRest T s) b c
+    → TakesPhrase (IsContent T s) a c
+content_fields T s a b c sign h =
+    takes_as (Then (IsSign 123) (IsFieldsRest T s)) (IsContent T s) a c (λ t k. inr (inl k)) (takes_two (IsSign 123) (IsFieldsRest T s) a b c sign h)
 
 -- Taking `)` takes the end of a tuple of two parts or more.
 pub tuple_end : (n : ℕ) (a b : List ℕ) → 1 < n → TakesPhrase (IsSign 41) a b → TakesPhrase (IsTupleEnd n) a b
@@ -102,7 +112,8 @@ pub tuple_end_comma : (n : ℕ) (a b c : List ℕ) → TakesPhrase (IsSign 44) a
 tuple_end_comma n a b c comma h = takes_as (Then (IsSign 44) (IsSign 41)) (IsTupleEnd n) a c (λ t k. inl k) (takes_two (IsSign 44) (IsSign 41) a b c comma h)
 
 -- Taking the parts and the end of a tuple takes what follows the `(` of a tuple.
-pub tuple_takes : (T : Schema → List ℕ → Type 0) (v : Vec Schema Global) (a b c : List ℕ) → TakesPhrase (Separated T 44 v.items) a b → TakesPhrase (IsTupleEnd (length v.items)) b c
+pub tuple_takes : (T : Schema → List ℕ → Type 0) (v : Vec Schema Global) (a b c : List ℕ) → TakesPhrase (Separated T 44 v.items) a b
+    → TakesPhrase (IsTupleEnd (length v.items)) b c
     → TakesPhrase (IsTupleRest T (Tuple v)) a c
 tuple_takes T v a b c row end =
     takes_as _ _ a c (λ t h. inr (inr (v, refl, h))) (takes_two (Separated T 44 v.items) (IsTupleEnd (length v.items)) a b c row end)

@@ -29,11 +29,15 @@ trim_is s r h = trim_ascii_start_is s r h ∙ drop_blanks s
 
 pub unblank_more : (blanks text : List ℕ) → AreBlank blanks → unblank (blanks ++ text) ≡ unblank text
 unblank_more [] text h = refl
-unblank_more (b ∷ blanks) text h = let e : is_ascii_whitespace b ≡ true = pass_head is_ascii_whitespace b blanks h in rw e (unblank_more blanks text (pass_tail is_ascii_whitespace b blanks h))
+unblank_more (b ∷ blanks) text h =
+    let e : is_ascii_whitespace b ≡ true = pass_head is_ascii_whitespace b blanks h in
+    rw e (unblank_more blanks text (pass_tail is_ascii_whitespace b blanks h))
 
 pub unblank_all : (blanks : List ℕ) → AreBlank blanks → unblank blanks ≡ []
 unblank_all [] h = refl
-unblank_all (b ∷ blanks) h = let e : is_ascii_whitespace b ≡ true = pass_head is_ascii_whitespace b blanks h in rw e (unblank_all blanks (pass_tail is_ascii_whitespace b blanks h))
+unblank_all (b ∷ blanks) h =
+    let e : is_ascii_whitespace b ≡ true = pass_head is_ascii_whitespace b blanks h in
+    rw e (unblank_all blanks (pass_tail is_ascii_whitespace b blanks h))
 
 pub unblank_black : (x : ℕ) (text : List ℕ) → is_ascii_whitespace x ≡ false → unblank (x ∷ text) ≡ x ∷ text
 unblank_black x text e = rw e refl
@@ -52,7 +56,8 @@ pub sign_unblank : (sign : ℕ) (text rest : List ℕ) → is_ascii_whitespace s
 sign_unblank sign text rest black h = led_unblank (sign ∷ []) text rest h ∙ unblank_black sign rest black
 
 -- The sign that is next is the first byte of the trimmed text.
-pub next_sign : (sign : ℕ) (text trimmed rest : List ℕ) → IsTrimAsciiStart text trimmed → is_ascii_whitespace sign ≡ false → TakesPhrase (IsSign sign) text rest → trimmed ≡ sign ∷ rest
+pub next_sign : (sign : ℕ) (text trimmed rest : List ℕ) → IsTrimAsciiStart text trimmed → is_ascii_whitespace sign ≡ false
+    → TakesPhrase (IsSign sign) text rest → trimmed ≡ sign ∷ rest
 next_sign sign text trimmed rest trim black h = trim_is text trimmed trim ∙ sign_unblank sign text rest black h
 
 -- The bytes of a word that is next, and of the text after it.
@@ -128,11 +133,13 @@ pub record WordTaken (text word after : List ℕ) : Type 0 where
   pub first : unblank text ≡ word ++ after
   pub ends : EndsWord after
 
-pub word_taken : {text word after : List ℕ} → TakesPhrase (IsWord word) text after → ((trimmed : List ℕ) × IsTrimAsciiStart text trimmed × (trimmed ≡ word ++ after)) → EndsWord after → WordTaken text word after
+pub word_taken : {text word after : List ℕ} → TakesPhrase (IsWord word) text after
+    → ((trimmed : List ℕ) × IsTrimAsciiStart text trimmed × (trimmed ≡ word ++ after)) → EndsWord after → WordTaken text word after
 word_taken {text} {word} {after} (front, (pass, led), whole) (trimmed, trim, e) ends = record { bytes = pass; first = sym (trim_is text trimmed trim) ∙ e; ends = ends }
 
 -- A word that is next, and that doesn't go on, is the whole word that was taken.
-pub same_word : (x : ℕ) (word v text after rest : List ℕ) → WordTaken text v after → TakesPhrase (IsWord (x ∷ word)) text rest → EndsWord rest → (x ∷ word ≡ v) × (rest ≡ after)
+pub same_word : (x : ℕ) (word v text after rest : List ℕ) → WordTaken text v after → TakesPhrase (IsWord (x ∷ word)) text rest → EndsWord rest
+    → (x ∷ word ≡ v) × (rest ≡ after)
 same_word x word v text after rest taken (front, (pass, led), whole) ends =
     one_word (x ∷ word) v rest after pass taken.bytes ends taken.ends (sym (word_unblank x word text rest (front, (pass, led), whole)) ∙ taken.first)
 

@@ -40,7 +40,8 @@ abbrev pub IsSeqRest : (Schema → List ℕ → Type 0) → Schema → List ℕ 
 IsSeqRest T s text = (b : Box Schema Global) × (s ≡ Seq b) × (has_bytes (type_of b.value) ≡ true) × Then (T b.value) (IsSign 93) text
 
 abbrev pub IsArrayRest : (Schema → List ℕ → Type 0) → Schema → List ℕ → Type 0
-IsArrayRest T s text = (b : Box Schema Global) × (n : ℕ) × (s ≡ Array b n) × (has_bytes (type_of b.value) ≡ true) × Then (T b.value) (Then (IsSign 59) (Then (IsCount n) (IsSign 93))) text
+IsArrayRest T s text =
+    (b : Box Schema Global) × (n : ℕ) × (s ≡ Array b n) × (has_bytes (type_of b.value) ≡ true) × Then (T b.value) (Then (IsSign 59) (Then (IsCount n) (IsSign 93))) text
 
 abbrev pub IsListRest : (Schema → List ℕ → Type 0) → Schema → List ℕ → Type 0
 IsListRest T s text = IsSeqRest T s text ⊎ IsArrayRest T s text

@@ -17,7 +17,8 @@ pub of_digits : (radix : ℕ) (bs : List ℕ) → AllDigits radix (without_under
 of_digits radix [] all = λ k d inside. absurd (omega (arith, inside))
 of_digits radix (b ∷ bs) all = by (is_underscore b) refl all (of_digits radix bs)
   where
-    by : (x : Bool) → is_underscore b ≡ x → AllDigits radix (cond x (without_underscores bs) (b ∷ without_underscores bs)) → (AllDigits radix (without_underscores bs) → AllPass (is_of_digits radix) bs) → AllPass (is_of_digits radix) (b ∷ bs)
+    by : (x : Bool) → is_underscore b ≡ x → AllDigits radix (cond x (without_underscores bs) (b ∷ without_underscores bs))
+        → (AllDigits radix (without_underscores bs) → AllPass (is_of_digits radix) bs) → AllPass (is_of_digits radix) (b ∷ bs)
     by true e h rest = pass_cons (is_of_digits radix) b bs (rw e refl) (rest h)
     by false e h rest =
         let low = h.0 in
@@ -55,7 +56,8 @@ marked_is n letter digits text is low (inr (other, ds, h, e)) =
 -- Without one it is decimal.
 pub plain_is : (n : ℕ) (text : List ℕ) → ((letter : ℕ) (digits : List ℕ) → text ≡ 48 ∷ letter ∷ digits → radix_of letter ≡ 0) → IsLiteral n text → IsDecimal n text
 plain_is n text none (inl h) = h
-plain_is n text none (inr (letter, digits, h, e)) = absurd (no_digits (without_underscores digits) (subst (λ r. IsNumeral r (without_underscores digits)) (none letter digits e) h.0))
+plain_is n text none (inr (letter, digits, h, e)) =
+    absurd (no_digits (without_underscores digits) (subst (λ r. IsNumeral r (without_underscores digits)) (none letter digits e) h.0))
 
 -- A text spells one number.
 pub one_literal : (n m : ℕ) (text : List ℕ) → IsLiteral n text → IsLiteral m text → n ≡ m

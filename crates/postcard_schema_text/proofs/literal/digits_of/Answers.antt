@@ -6,7 +6,8 @@ use Rattle.postcard_schema_text.proofs.Literals.{digit_at, value_more, value_gro
 use Rattle.postcard_schema_text.proofs.literal.digits_of.Goals as goal
 
 pub with_digit-requires-clause-digit : goal.with_digit-requires-clause-digit
-with_digit-requires-clause-digit c = digit_at c.args.radix c.args.digits.now c.loop-byte.byte-index (c.are_digits.ensures.0 c.if-not-are_digits.false).1 c.loop-byte-test.true
+with_digit-requires-clause-digit c =
+    digit_at c.args.radix c.args.digits.now c.loop-byte.byte-index (c.are_digits.ensures.0 c.if-not-are_digits.false).1 c.loop-byte-test.true
 
 pub returns-in-None-clause-refused : goal.returns-in-None-clause-refused
 returns-in-None-clause-refused c =

@@ -69,7 +69,8 @@ invariant-read_enum-loop l = record {
   begun : Begun (IsVariantText (IsType l.depth)) 124 l.variants.items l.initial.rest.now l.rest.now;
   differ : NamesDiffer l.variants.items;
   short : length l.rest.now + l.counter ≤ length l.initial.rest.now;
-  left : (s : Schema) (r : List ℕ) → TakesPhrase (IsEnumText (IsType l.depth) s) l.fn.rest.now r → GoesOnBy follows_type r → EnumLeft (IsType l.depth) l.variants.items l.leads s l.rest.now r;
+  left : (s : Schema) (r : List ℕ) → TakesPhrase (IsEnumText (IsType l.depth) s) l.fn.rest.now r → GoesOnBy follows_type r
+      → EnumLeft (IsType l.depth) l.variants.items l.leads s l.rest.now r;
 }
 
 abbrev pub invariant-read_fields-loop : goal.invariant-read_fields-loop
