@@ -1,0 +1,4 @@
+pub mod Rows
+pub mod Nodes
+pub mod IntegerLemmas
+pub mod Bytes
