@@ -1,5 +1,5 @@
-//! Tests of types as values, with texts and sizes that were worked out by hand. They are in a crate of
-//! their own, so that the crates they test are proved without them.
+//! Tests of types as values, with texts and sizes that were worked out by hand. They are in a crate
+//! of their own, so that the crates they test are proved without them.
 #![tactic(auto)]
 
 #[cfg(test)]

@@ -3,7 +3,7 @@
 use crate::asserts::prints;
 use postcard_schema::{ByteOrder, Float, Integer, Leaf, Path, Step};
 
-/// Types without parts, and their names in Rust; `LE` and `BE` are the wrappers of a number's full width.
+/// Types without parts, and their names in Rust. `LE` and `BE` wrap a number at its full width.
 const LEAVES: [(Leaf, &str); 17] = [
     (Leaf::Bool, "bool"),
     (Leaf::Integer(Integer::U8), "u8"),

@@ -1,4 +1,4 @@
-//! Least and greatest sizes, and the parts that have no greatest size: the sizes of wire format 1.0,
+//! Least and greatest sizes, and the parts that have no greatest size: sizes of wire format 1.0,
 //! added up by hand. A varint of 16, 32 or 64 bits has at most 3, 5 or 10 bytes.
 
 use crate::asserts::{prints, same};
@@ -7,7 +7,8 @@ use postcard_schema::{Float, Integer, Leaf, Schema};
 use postcard_schema_size::{endless_parts, max_size, min_size};
 use std::process::Abort;
 
-/// Asserts that the type, and a copy of it, has these sizes, and these parts without a greatest size.
+/// Asserts that the type, and a copy of it, has these sizes and these parts without a greatest
+/// size.
 fn check(
     rt: &(impl Abort + AllocGlobal),
     schema: &Schema,
