@@ -16,7 +16,7 @@ pub struct Sizes {
     pub greatest: Option<usize>,
 }
 
-/// Returns the sizes of what has this number of bytes in any case.
+/// Returns the sizes of a type each message of which has this number of bytes.
 pub fn exactly(size: usize) -> Sizes
     ensures least { result.least ≡ Some size }
     ensures greatest { result.greatest ≡ Some size }
@@ -57,7 +57,7 @@ fn integer_size(integer: Integer) -> usize
 }
 
 /// Returns the sizes of an array of `count` elements of these sizes. Without elements both are 0,
-/// though these be `None`.
+/// even if those of an element are `None`.
 pub fn array_sizes(count: usize, element: Sizes) -> Sizes
     ensures least { result.least ≡ repeated count element.least }
     ensures greatest { result.greatest ≡ repeated count element.greatest }
