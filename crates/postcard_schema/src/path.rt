@@ -20,8 +20,8 @@ pub enum Step<'a> {
 }
 
 /// The steps from a value to one of its parts. It is printed with a `.` before a name or the number
-/// of a part, unless it comes first, and with the number of an element in brackets, or empty brackets
-/// for each element. The path of the whole value is empty.
+/// of a part, unless it comes first. The number of an element is in brackets, which are empty for
+/// each element. The path of the whole value is empty.
 #[derive(Debug, Drop)]
 pub struct Path<'a> {
     /// The steps, the outermost first.
@@ -41,7 +41,8 @@ impl fmt::Display for Path<'_> {
 
 /// Prints the step at this index of a path, and the sign before it.
 fn write_step<W: fmt::Write>(step: Step<'_>, index: usize, f: &mut fmt::Formatter<W>) -> fmt::Result
-    ensures { WritesOnOk W.write_str_gives f.old result (placed_text index (plain_step step.entry)) f.new }
+    ensures { WritesOnOk W.write_str_gives f.old result
+        (placed_text index (plain_step step.entry)) f.new }
 {
     if index > 0 && !matches!(step, Step::Element(_) | Step::Each) {
         f.write_str(".")?;

@@ -50,7 +50,8 @@ endless_enum v = search (rules, the_lemmas, named_paths)
 pub after_step : (here : List PlainStep) (s : PlainStep) (paths : Paths) → after here (after (s ∷ []) paths) ≡ after (here ++ s ∷ []) paths
 after_step here s paths = simp (append_assoc, map-map)
 
-pub after_first : (here : List PlainStep) (s : PlainStep) (paths others : Paths) → after here (after (s ∷ []) paths ++ others) ≡ after (here ++ s ∷ []) paths ++ after here others
+pub after_first : (here : List PlainStep) (s : PlainStep) (paths others : Paths)
+    → after here (after (s ∷ []) paths ++ others) ≡ after (here ++ s ∷ []) paths ++ after here others
 after_first here s paths others = simp (append_assoc, map-append, map-map)
 
 -- The path of a type itself, and those in its parts.
@@ -58,11 +59,13 @@ pub after_whole : (here : List PlainStep) (is : Bool) → after here (if is then
 after_whole here true = ap (λ path. path ∷ []) (append-nil here)
 after_whole here false = refl
 
-pub after_here : (here : List PlainStep) (old now paths : Paths) → now ≡ old ++ here ∷ [] → old ++ after here ([] ∷ paths) ≡ now ++ after here paths
+pub after_here : (here : List PlainStep) (old now paths : Paths) → now ≡ old ++ here ∷ []
+    → old ++ after here ([] ∷ paths) ≡ now ++ after here paths
 after_here here old now paths added = rw added (simp (append_assoc, append-nil))
 
 -- The paths in the entries of a map.
-pub after_entries : (here : List PlainStep) (keys values old now both all : Paths) → now ≡ old ++ here ∷ [] → both ≡ now ++ after ((here ++ at_each ∷ []) ++ at_part 0 ∷ []) keys
+pub after_entries : (here : List PlainStep) (keys values old now both all : Paths) → now ≡ old ++ here ∷ []
+    → both ≡ now ++ after ((here ++ at_each ∷ []) ++ at_part 0 ∷ []) keys
     → all ≡ both ++ after ((here ++ at_each ∷ []) ++ at_part 1 ∷ []) values → all ≡ old ++ after here ([] ∷ in_entries keys values)
 after_entries here keys values old now both all first second third = rw (third, second, first) (simp (append_assoc, append-nil, map-append, map-map))
 
@@ -73,11 +76,13 @@ some_elements n paths some = ap (λ b. if b then paths else []) (lt-ltb 0 n some
 -- ---- Parts in a row
 
 -- What was added of a part, by equal steps and paths.
-pub moved : (here h : List PlainStep) (step s : PlainStep) (paths found now new : Paths) → h ≡ here → s ≡ step → found ≡ paths → new ≡ now ++ after (h ++ s ∷ []) found
+pub moved : (here h : List PlainStep) (step s : PlainStep) (paths found now new : Paths) → h ≡ here → s ≡ step → found ≡ paths
+    → new ≡ now ++ after (h ++ s ∷ []) found
     → new ≡ now ++ after (here ++ step ∷ []) paths
 moved here h step s paths found now new back same is added = rw (← back, ← same, ← is) added
 
 -- The paths so far are those before and those of one part more; with the paths of the others, these are all.
-pub next : (here : List PlainStep) (step : PlainStep) (paths others left now new all : Paths) → new ≡ now ++ after (here ++ step ∷ []) paths → left ≡ after here (after (step ∷ []) paths ++ others)
+pub next : (here : List PlainStep) (step : PlainStep) (paths others left now new all : Paths) → new ≡ now ++ after (here ++ step ∷ []) paths
+    → left ≡ after here (after (step ∷ []) paths ++ others)
     → now ++ left ≡ all → new ++ after here others ≡ all
 next here step paths others left now new all added first whole = rw (added, append_assoc) (rw (first, after_first) at whole)

@@ -34,7 +34,8 @@ RowHolds l has = IsRowLimit l has (λ (v : Unit {0}). never)
 abbrev CasesHold : (Option ℕ → SizeLimit) → (ℕ → Tree → Type 0) → Option ℕ → Type 0
 CasesHold l has = IsCasesLimit l has (λ (v : Unit {0}). never)
 
-holding : {X V : Type 0} {measure : X → ℕ} {l : SizeLimit} {has : X → Type 0} {refusal : V → Error → Type 0} → IsLimitOf measure l has refusal → IsLimitOf measure l has (λ (v : Unit {0}). never)
+holding : {X V : Type 0} {measure : X → ℕ} {l : SizeLimit} {has : X → Type 0} {refusal : V → Error → Type 0} → IsLimitOf measure l has refusal
+    → IsLimitOf measure l has (λ (v : Unit {0}). never)
 holding h = record { bounded = h.bounded; is_reached = h.is_reached; never_refuses = λ may. never_any }
 
 -- The limit of an array holds if that of its elements does. An empty array has no bytes.

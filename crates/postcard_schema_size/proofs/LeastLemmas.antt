@@ -17,7 +17,8 @@ use Rattle.postcard_schema_size.proofs.LeafLeast.{limited_least}
 pub end_least : IsLeastOfRow (Some 0) IsEnd
 end_least = record { fits = omega arith; none_shorter = λ ts e. omega arith; reached = (NoTrees, refl, refl) }
 
-pub then_least : (a b : Option ℕ) (first : Tree → Type 0) (rest : Trees → Type 0) → IsLeastSize a first → IsLeastOfRow b rest → IsLeastOfRow (sum_of a b) (IsThen first rest)
+pub then_least : (a b : Option ℕ) (first : Tree → Type 0) (rest : Trees → Type 0) → IsLeastSize a first → IsLeastOfRow b rest
+    → IsLeastOfRow (sum_of a b) (IsThen first rest)
 then_least None b first rest h k = λ ts (s, ss, e, f, g). rw e (omega (arith, h s f, length-append (canonical s) (canonical_all ss)))
 then_least (Some a) None first rest h k = λ ts (s, ss, e, f, g). rw e (omega (arith, k ss g, length-append (canonical s) (canonical_all ss)))
 then_least (Some a) (Some b) first rest h k =
@@ -41,7 +42,8 @@ group_least (Some m) parts h = record {
 variant_len : (i : ℕ) (t : Tree) → tree_len (Variant i t) ≡ varint_len i + tree_len t
 variant_len i t = omega (arith, count_len i, length-append (digits i) (canonical t))
 
-pub variant_least : (i : ℕ) (g : Option ℕ) (content : Tree → Type 0) → i < 2 ^ 32 → IsLeastSize g content → IsLeastSize (sum_of (Some (varint_len i)) g) (IsVariantAt i content)
+pub variant_least : (i : ℕ) (g : Option ℕ) (content : Tree → Type 0) → i < 2 ^ 32 → IsLeastSize g content
+    → IsLeastSize (sum_of (Some (varint_len i)) g) (IsVariantAt i content)
 variant_least i None content few h = λ t (s, e, low, r). rw e (omega (arith, h s r, variant_len i s))
 variant_least i (Some m) content few h =
     let (u, p, d) = h.reached in

@@ -60,7 +60,8 @@ total_begin sizes ts l g = record {
   greatest = rw (g, zero_first (greatest_all ts) (row_small ts));
 }
 
-pub total_step : (before part after : Sizes) (t : MessageType) (left rest all : MessageTypes) → left ≡ then_type t rest → IsLeastSize part.least (reads t) → part.greatest ≡ (limit t).greatest
+pub total_step : (before part after : Sizes) (t : MessageType) (left rest all : MessageTypes) → left ≡ then_type t rest
+    → IsLeastSize part.least (reads t) → part.greatest ≡ (limit t).greatest
     → after.least ≡ sum_of before.least part.least → after.greatest ≡ sum_of before.greatest part.greatest → Total before left all → Total after rest all
 total_step before part after t left rest all here least is l g total = record {
   small_least = rw l (sum_small before.least part.least);
@@ -70,7 +71,8 @@ total_step before part after t left rest all here least is l g total = record {
   greatest = rw (g, sums before.greatest part.greatest (greatest_all rest), is) (rw here at total.greatest);
 }
 
-pub total_end : (sizes : Sizes) (left all : MessageTypes) → left ≡ no_types → Total sizes left all → IsLeastSize sizes.least (IsGroup (reads_all all)) × (sizes.greatest ≡ greatest_all all)
+pub total_end : (sizes : Sizes) (left all : MessageTypes) → left ≡ no_types → Total sizes left all
+    → IsLeastSize sizes.least (IsGroup (reads_all all)) × (sizes.greatest ≡ greatest_all all)
 total_end sizes left all none total = (
   group_least sizes.least (reads_all all) (rw (zero_last sizes.least total.small_least) at (total.least (Some 0) (rw none end_least))),
   sym (zero_last sizes.greatest total.small_greatest) ∙ (rw none at total.greatest),
@@ -102,13 +104,15 @@ module _ (ns : List (Named Schema)) (k : ℕ) (n : Named Schema) (low : k < leng
   here : (t : Tree) → IsVariantAt k (reads (type_of n.content)) t → Below (k + 1) ns t
   here t (s, e, few, r) = (k, s, e, few, (omega arith, subst (λ (has : Tree → Type 0). has s) (sym same) r))
 
-  one_more : (a b : Option ℕ) → IsLeastSize a (Below k ns) → IsLeastSize b (IsVariantAt k (reads (type_of n.content))) → IsLeastSize (lesser_of a b) (Below (k + 1) ns)
+  one_more : (a b : Option ℕ) → IsLeastSize a (Below k ns) → IsLeastSize b (IsVariantAt k (reads (type_of n.content)))
+      → IsLeastSize (lesser_of a b) (Below (k + 1) ns)
   one_more a b = lesser_least (Below k ns) (IsVariantAt k (reads (type_of n.content))) (Below (k + 1) ns) split before here a b
 
 within : (ns : List (Named Schema)) (i k : ℕ) (s : Tree) → length ns ≤ k → reads_at (content_types ns) i s → i < k
 within ns i k s high r = elim (cases_lt i k) [ inl low ↦ low | inr past ↦ absurd (no_content_at ns i s (λ low. omega (arith, high, past, low)) r) ]
 
-pub all_below : (ns : List (Named Schema)) (k : ℕ) (a : Option ℕ) → length ns ≤ k → IsLeastSize a (Below k ns) → IsLeastSize a (IsVariant (reads_at (content_types ns)))
+pub all_below : (ns : List (Named Schema)) (k : ℕ) (a : Option ℕ) → length ns ≤ k → IsLeastSize a (Below k ns)
+    → IsLeastSize a (IsVariant (reads_at (content_types ns)))
 all_below ns k a high = same_least a (Below k ns) (IsVariant (reads_at (content_types ns)))
     (λ t (i, s, e, few, (below, r)). (i, s, e, few, r)) (λ t (i, s, e, few, r). (i, s, e, few, (within ns i k s high r, r)))
 

@@ -1,5 +1,6 @@
 //! The parts of a type that have no greatest size: [`endless_parts`]. The functions below it fail
-//! as it does. `here` has the steps to the part that is looked at, and is as it was in the end.
+//! as it does. `here` has the steps to the part that is looked at. It is unchanged when they return
+//! `Ok`.
 
 ghost use Rattle.std.specs.Prelude.{◌≡◌, ◌++◌, ◌∷◌, [], if◌then◌else◌, IfErr, IfOk, OnOk, map};
 ghost use Rattle.postcard_schema_size.specs.{after, endless, in_named, in_parts};

@@ -1,5 +1,5 @@
-//! How many bytes the messages of a type have that is known only at run time: at most [`max_size`], and
-//! at least [`min_size`]; and which of its parts have no greatest size: [`endless_parts`].
+//! How many bytes the messages of a type have that is known only at run time: at most [`max_size`],
+//! and at least [`min_size`]; and which of its parts have no greatest size: [`endless_parts`].
 #![tactic(auto)]
 
 ghost use Rattle.std.specs.Prelude.{◌≡◌};
@@ -14,8 +14,8 @@ pub use endless::endless_parts;
 use postcard_schema::Schema;
 use walk::sizes_of;
 
-/// Returns the greatest number of bytes of a message of the type, or `None` if none is known: a text,
-/// a byte string or a list is in it, or an enum without variants, or it does not fit `usize`.
+/// Returns the greatest number of bytes of a message of the type, or `None` if none is known: a
+/// text, a byte string or a list is in it, or an enum without variants, or it does not fit `usize`.
 ///
 /// No message is longer, and if the indices of all variants are below 2^32, one is as long.
 pub fn max_size(schema: &Schema) -> Option<usize>

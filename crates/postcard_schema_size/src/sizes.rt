@@ -1,4 +1,5 @@
-//! The least and the greatest size of a type without parts, and of others from those of their parts.
+//! The least and the greatest size of a type without parts, and of others from those of their
+//! parts.
 
 ghost use Rattle.std.specs.Prelude.{◌≡◌, Some};
 ghost use Rattle.postcard_schema_size.specs.{greater_of, integer_greatest, leaf_greatest};
@@ -7,15 +8,15 @@ ghost use Rattle.postcard_schema_size.specs.{leaf_least, lesser_of, repeated, su
 use postcard_max::sizes::{greater, product, sum};
 use postcard_schema::{Integer, Leaf};
 
-/// The least and the greatest number of bytes of something. `None` for the least says that it exceeds
-/// `usize`, and for the greatest that none is known that fits it.
+/// The least and the greatest number of bytes of something. `None` for the least says that it
+/// exceeds `usize`, and for the greatest that none is known that fits it.
 #[derive(Clone, Copy)]
 pub struct Sizes {
     pub least: Option<usize>,
     pub greatest: Option<usize>,
 }
 
-/// Returns the sizes of what has this number of bytes in any case.
+/// Returns the sizes of a type each message of which has this number of bytes.
 pub fn exactly(size: usize) -> Sizes
     ensures least { result.least ≡ Some size }
     ensures greatest { result.greatest ≡ Some size }
@@ -55,8 +56,8 @@ fn integer_size(integer: Integer) -> usize
     }
 }
 
-/// Returns the sizes of an array of `count` elements of these sizes: 0 if there are none, though the
-/// sizes be `None`.
+/// Returns the sizes of an array of `count` elements of these sizes. Without elements both are 0,
+/// even if those of an element are `None`.
 pub fn array_sizes(count: usize, element: Sizes) -> Sizes
     ensures least { result.least ≡ repeated count element.least }
     ensures greatest { result.greatest ≡ repeated count element.greatest }

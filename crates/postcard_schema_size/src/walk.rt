@@ -82,7 +82,8 @@ fn enum_sizes(variants: &Vec<Variant>) -> Sizes
     sizes
 }
 
-/// Returns the sizes of the variant at an index. No message has one at an index of more than 32 bits.
+/// Returns the sizes of the variant at an index. No message has one at an index of more than 32
+/// bits.
 #[cycle(walk)]
 fn variant_sizes(index: usize, content: &Schema) -> Sizes
     ensures least { IsLeastSize result.least (IsVariantAt index (reads (type_of content.now))) }

@@ -5,11 +5,13 @@ use Rattle.std.proofs.lemmas.List.{map_push}
 use Rattle.postcard_schema.specs.Paths.{plain_path, plain_step, at_name, at_part, at_each}
 use Rattle.postcard_schema_size.specs.Endless.{after, endless, in_named, in_parts, is_endless_leaf}
 use Rattle.postcard_schema_size.proofs.Rows.{cut}
-use Rattle.postcard_schema_size.proofs.EndlessLemmas.{endless_leaf, endless_option, endless_seq, endless_map, endless_array, endless_tuple, endless_struct, endless_enum, after_whole, after_here, after_step, after_entries, some_elements, moved, next}
+use Rattle.postcard_schema_size.proofs.EndlessLemmas.{endless_leaf, endless_option, endless_seq, endless_map, endless_array, endless_tuple, endless_struct, endless_enum}
+use Rattle.postcard_schema_size.proofs.EndlessLemmas.{after_whole, after_here, after_step, after_entries, some_elements, moved, next}
 use Rattle.postcard_schema_size.proofs.endless.+endless.Goals as goal
 
 pub push_endless-returns-in-Leaf-clause-added : goal.push_endless-returns-in-Leaf-clause-added
-push_endless-returns-in-Leaf-clause-added t c = rw (c.in-Leaf.is, endless_leaf, after_whole (map plain_step c.args.here.now.items) (is_endless_leaf c.in-Leaf.leaf)) c.push_leaf.ensures.added
+push_endless-returns-in-Leaf-clause-added t c =
+    rw (c.in-Leaf.is, endless_leaf, after_whole (map plain_step c.args.here.now.items) (is_endless_leaf c.in-Leaf.leaf)) c.push_leaf.ensures.added
 
 pub push_endless-returns-in-Option-clause-added : goal.push_endless-returns-in-Option-clause-added
 push_endless-returns-in-Option-clause-added t c = rw (c.in-Option.is, endless_option, ← c.deref.ensures) c.push_endless.ensures.added
@@ -29,7 +31,8 @@ push_endless-returns-in_ok-push_here-in-Seq-clause-added t c =
     let paths = endless c.in-Seq.element.value in
     let old = map plain_path c.args.paths.now.items in
     let now = map plain_path c.push_here.new.paths.items in
-    let is = after_here here old now (after (at_each ∷ []) paths) c.in_ok-push_here-in-Seq.ensures.added ∙ ap (λ ps. now ++ ps) (after_step here at_each paths) in
+    let is = after_here here old now (after (at_each ∷ []) paths) c.in_ok-push_here-in-Seq.ensures.added
+    ∙ ap (λ ps. now ++ ps) (after_step here at_each paths) in
     rw (c.in-Seq.is, endless_seq, is, ← c.deref-in-Seq.ensures) c.push_within.ensures.added
 
 pub push_endless-returns-else-count-eq0-clause-added : goal.push_endless-returns-else-count-eq0-clause-added
@@ -78,5 +81,6 @@ push_in_named-loop-part-preserved t c =
     let added = moved here _ step _ (endless n.content) _ _ _ (ap (map plain_step) back) (ap at_name c.deref.ensures) refl c.in_ok-push_within.ensures.added in
     record {
       back = cc (c.in_ok-push_within.ensures.back, back);
-      whole = next here step (endless n.content) (in_named endless (drop (k + 1) ns)) _ _ _ _ added (cut (λ ms. after here (in_named endless ms)) ns k n low c.part-item.is) c.loop-part.invariant.whole;
+      whole = next here step (endless n.content) (in_named endless (drop (k + 1) ns)) _ _ _ _ added
+          (cut (λ ms. after here (in_named endless ms)) ns k n low c.part-item.is) c.loop-part.invariant.whole;
     }
