@@ -1,21 +1,14 @@
 -- The first byte of a type, a variant and a field, after blanks.
-use Rattle.std.proofs.Common.{rules, ◌≡◌, ℕ, zero, suc, ◌<◌, nat_eq, Bool, true, false, Decides, ◌||◌, List, [], ◌∷◌, ◌++◌, length, Some, None, Option, codes, bytes_eq, string_bytes, refl, sym, ap, subst, ◌∙◌, true≢false, arith, ◌⊎◌, inl, inr}
-use Rattle.std.specs.Prelude.{slice_index, if◌then◌else◌}
+use Rattle.std.proofs.Common.{rules, ◌≡◌, ℕ, zero, suc, ◌<◌, nat_eq, Bool, true, false, Decides, ◌||◌, List, [], ◌∷◌, ◌++◌, length, string_bytes, refl, sym, ap, subst, ◌∙◌, true≢false, arith, ◌⊎◌, inl, inr}
+use Rattle.std.specs.Prelude.{slice_index}
 use Rattle.std.specs.Str.{IsTrimAsciiStart}
 use Rattle.std.specs.Char.{is_ascii_uppercase, is_ascii_whitespace}
-use Rattle.postcard_schema.specs.declared.leaf.ByteOrder.TheVariants.{Little, Big}
-use Rattle.postcard_schema.specs.declared.leaf.Float.TheVariants.{F32, F64}
-use Rattle.postcard_schema.specs.declared.leaf.Integer.TheVariants.{U8, U16, U32, U64, U128, I8, I16, I32, I64, I128}
-use Rattle.postcard_schema.specs.declared.leaf.Leaf.TheVariants as leaves
 use Rattle.postcard_schema.specs.declared.schema.Named.{Named}
 use Rattle.postcard_schema.specs.declared.schema.Schema.{Schema}
 use Rattle.postcard_schema.specs.Lemmas.{type_of_option}
 use Rattle.postcard_schema.specs.Meaning.{MessageType, option, type_of}
-use Rattle.postcard_schema_text.specs.declared.angled.Holder.TheVariants as holders
-use Rattle.postcard_schema_text.specs.declared.angled.Pair.TheVariants as pairs
 use Rattle.postcard_schema_text.specs.declared.names.TypeName.{TypeName}
 use Rattle.postcard_schema_text.specs.declared.names.TypeName.TheVariants as names
-use Rattle.postcard_schema_text.specs.declared.angled.Angled.TheVariants as kinds
 use Rattle.postcard_schema_text.specs.Text.{unblank, Then, TakesPhrase, IsSign, IsWord, is_of_word}
 use Rattle.postcard_schema_text.specs.Angled.{IsTypeName}
 use Rattle.postcard_schema_text.specs.Grammar.{Separated, IsTupleRest, IsField, IsFieldsRest, IsAngledRest, IsNamedRest, IsWorded, IsPlain, IsReferenceRest, IsBehind, IsReferred, IsOptions, IsContent, IsVariantText, IsLead, IsEnumText, IsType}
