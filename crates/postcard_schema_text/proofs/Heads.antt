@@ -1,21 +1,14 @@
 -- The first byte of a type, a variant and a field, after blanks.
-use Rattle.std.proofs.Common.{◌≡◌, ℕ, zero, suc, ◌<◌, nat_eq, Bool, true, false, Decides, ◌||◌, List, [], ◌∷◌, ◌++◌, length, Some, None, Option, codes, bytes_eq, string_bytes, refl, sym, ap, subst, ◌∙◌, true≢false, arith, ◌⊎◌, inl, inr}
-use Rattle.std.specs.Prelude.{slice_index, if◌then◌else◌}
+use Rattle.std.proofs.Common.{rules, ◌≡◌, ℕ, zero, suc, ◌<◌, nat_eq, Bool, true, false, Decides, ◌||◌, List, [], ◌∷◌, ◌++◌, length, string_bytes, refl, sym, ap, subst, ◌∙◌, true≢false, arith, ◌⊎◌, inl, inr}
+use Rattle.std.specs.Prelude.{slice_index}
 use Rattle.std.specs.Str.{IsTrimAsciiStart}
 use Rattle.std.specs.Char.{is_ascii_uppercase, is_ascii_whitespace}
-use Rattle.postcard_schema.specs.declared.leaf.ByteOrder.TheVariants.{Little, Big}
-use Rattle.postcard_schema.specs.declared.leaf.Float.TheVariants.{F32, F64}
-use Rattle.postcard_schema.specs.declared.leaf.Integer.TheVariants.{U8, U16, U32, U64, U128, I8, I16, I32, I64, I128}
-use Rattle.postcard_schema.specs.declared.leaf.Leaf.TheVariants as leaves
 use Rattle.postcard_schema.specs.declared.schema.Named.{Named}
 use Rattle.postcard_schema.specs.declared.schema.Schema.{Schema}
 use Rattle.postcard_schema.specs.Lemmas.{type_of_option}
 use Rattle.postcard_schema.specs.Meaning.{MessageType, option, type_of}
-use Rattle.postcard_schema_text.specs.declared.angled.Holder.TheVariants as holders
-use Rattle.postcard_schema_text.specs.declared.angled.Pair.TheVariants as pairs
 use Rattle.postcard_schema_text.specs.declared.names.TypeName.{TypeName}
 use Rattle.postcard_schema_text.specs.declared.names.TypeName.TheVariants as names
-use Rattle.postcard_schema_text.specs.declared.angled.Angled.TheVariants as kinds
 use Rattle.postcard_schema_text.specs.Text.{unblank, Then, TakesPhrase, IsSign, IsWord, is_of_word}
 use Rattle.postcard_schema_text.specs.Angled.{IsTypeName}
 use Rattle.postcard_schema_text.specs.Grammar.{Separated, IsTupleRest, IsField, IsFieldsRest, IsAngledRest, IsNamedRest, IsWorded, IsPlain, IsReferenceRest, IsBehind, IsReferred, IsOptions, IsContent, IsVariantText, IsLead, IsEnumText, IsType}
@@ -32,77 +25,12 @@ pub word_starts : (w a r : List ℕ) → 0 < length w → TakesPhrase (IsWord w)
 word_starts [] a r filled h = absurd (omega (arith, filled))
 word_starts (x ∷ w) a r filled (front, (pass, led), whole) = (x, w ++ r, word_unblank x w a r (front, (pass, led), whole), pass_head is_of_word x w pass)
 
--- What a word stands for, if it names a type.
-abbrev type_named : List ℕ → Option TypeName
-type_named w =
-    if bytes_eq w (codes "bool") then Some (names.Leaf leaves.Bool) else
-    (if bytes_eq w (codes "char") then Some (names.Leaf leaves.Char) else
-    (if bytes_eq w (codes "str") then Some (names.Leaf leaves.Str) else
-    (if bytes_eq w (codes "String") then Some (names.Leaf leaves.Str) else
-    (if bytes_eq w (codes "bytes") then Some (names.Leaf leaves.Bytes) else
-    (if bytes_eq w (codes "u8") then Some (names.Leaf (leaves.Integer U8)) else
-    (if bytes_eq w (codes "u16") then Some (names.Leaf (leaves.Integer U16)) else
-    (if bytes_eq w (codes "u32") then Some (names.Leaf (leaves.Integer U32)) else
-    (if bytes_eq w (codes "u64") then Some (names.Leaf (leaves.Integer U64)) else
-    (if bytes_eq w (codes "usize") then Some (names.Leaf (leaves.Integer U64)) else
-    (if bytes_eq w (codes "u128") then Some (names.Leaf (leaves.Integer U128)) else
-    (if bytes_eq w (codes "i8") then Some (names.Leaf (leaves.Integer I8)) else
-    (if bytes_eq w (codes "i16") then Some (names.Leaf (leaves.Integer I16)) else
-    (if bytes_eq w (codes "i32") then Some (names.Leaf (leaves.Integer I32)) else
-    (if bytes_eq w (codes "i64") then Some (names.Leaf (leaves.Integer I64)) else
-    (if bytes_eq w (codes "isize") then Some (names.Leaf (leaves.Integer I64)) else
-    (if bytes_eq w (codes "i128") then Some (names.Leaf (leaves.Integer I128)) else
-    (if bytes_eq w (codes "f32") then Some (names.Leaf (leaves.Float F32)) else
-    (if bytes_eq w (codes "f64") then Some (names.Leaf (leaves.Float F64)) else
-    (if bytes_eq w (codes "Box") then Some (names.Angled (kinds.Holder holders.Itself)) else
-    (if bytes_eq w (codes "Vec") then Some (names.Angled (kinds.Holder holders.List)) else
-    (if bytes_eq w (codes "Option") then Some (names.Angled (kinds.Holder holders.Option)) else
-    (if bytes_eq w (codes "LE") then Some (names.Angled (kinds.Holder (holders.Fixed Little))) else
-    (if bytes_eq w (codes "BE") then Some (names.Angled (kinds.Holder (holders.Fixed Big))) else
-    (if bytes_eq w (codes "BTreeMap") then Some (names.Angled (kinds.Pair pairs.Map)) else
-    (if bytes_eq w (codes "HashMap") then Some (names.Angled (kinds.Pair pairs.Map)) else
-    (if bytes_eq w (codes "Result") then Some (names.Angled (kinds.Pair pairs.Result)) else None))))))))))))))))))))))))))
-
-named_is : (w : List ℕ) (k : TypeName) → IsTypeName w k → type_named w ≡ Some k
-named_is w (names.Leaf leaves.Bool) h = ap type_named h
-named_is w (names.Leaf leaves.Char) h = ap type_named h
-named_is w (names.Leaf leaves.Str) (inl h) = ap type_named h
-named_is w (names.Leaf leaves.Str) (inr h) = ap type_named h
-named_is w (names.Leaf leaves.Bytes) h = ap type_named h
-named_is w (names.Leaf (leaves.Integer U8)) h = ap type_named h
-named_is w (names.Leaf (leaves.Integer U16)) h = ap type_named h
-named_is w (names.Leaf (leaves.Integer U32)) h = ap type_named h
-named_is w (names.Leaf (leaves.Integer U64)) (inl h) = ap type_named h
-named_is w (names.Leaf (leaves.Integer U64)) (inr h) = ap type_named h
-named_is w (names.Leaf (leaves.Integer U128)) h = ap type_named h
-named_is w (names.Leaf (leaves.Integer I8)) h = ap type_named h
-named_is w (names.Leaf (leaves.Integer I16)) h = ap type_named h
-named_is w (names.Leaf (leaves.Integer I32)) h = ap type_named h
-named_is w (names.Leaf (leaves.Integer I64)) (inl h) = ap type_named h
-named_is w (names.Leaf (leaves.Integer I64)) (inr h) = ap type_named h
-named_is w (names.Leaf (leaves.Integer I128)) h = ap type_named h
-named_is w (names.Leaf (leaves.Float F32)) h = ap type_named h
-named_is w (names.Leaf (leaves.Float F64)) h = ap type_named h
-named_is w (names.Angled (kinds.Holder holders.Itself)) h = ap type_named h
-named_is w (names.Angled (kinds.Holder holders.List)) h = ap type_named h
-named_is w (names.Angled (kinds.Holder holders.Option)) h = ap type_named h
-named_is w (names.Angled (kinds.Holder (holders.Fixed Little))) h = ap type_named h
-named_is w (names.Angled (kinds.Holder (holders.Fixed Big))) h = ap type_named h
-named_is w (names.Angled (kinds.Pair pairs.Map)) (inl h) = ap type_named h
-named_is w (names.Angled (kinds.Pair pairs.Map)) (inr h) = ap type_named h
-named_is w (names.Angled (kinds.Pair pairs.Result)) h = ap type_named h
-named_is w (names.Leaf (leaves.Fixed order integer)) h = absurd h
-
 -- A word stands for one type at most, and an empty one for none.
 pub one_name : (w : List ℕ) (k l : TypeName) → IsTypeName w k → IsTypeName w l → k ≡ l
-one_name w k l h g = let e : Some k ≡ Some l = sym (named_is w k h) ∙ named_is w l g in cc
-
-none_some : (k : TypeName) → None ≡ Some k → ⊥
-none_some k e = cc
+one_name w k l h g = search rules
 
 pub name_filled : (w : List ℕ) (k : TypeName) → IsTypeName w k → 0 < length w
-name_filled [] k h = absurd (none_some k (named_is [] k h))
-name_filled (x ∷ w) k h = omega arith
+name_filled w k h = search rules
 
 or_left : (x y : Bool) → x ≡ true → x || y ≡ true
 or_left x y e = rw e refl

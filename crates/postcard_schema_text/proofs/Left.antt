@@ -1,5 +1,6 @@
 -- What is left of each phrase of the grammar once its first parts are taken from the text.
-use Rattle.std.proofs.Common.{◌≡◌, ℕ, nat_eq, Bool, true, false, ◌||◌, List, [], ◌∷◌, ◌++◌, string_bytes, refl, sym, ap, ◌∙◌, subst, true≢false, eqb-true, eq-eqb, ◌⊎◌, inl, inr}
+use Rattle.std.proofs.Common.{arith, ◌≡◌, ℕ, nat_eq, Bool, true, false, List, [], ◌∷◌, ◌++◌, string_bytes, refl, sym, ap, ◌∙◌, subst, true≢false, eq-eqb, ◌⊎◌, inl, inr}
+use Rattle.std.proofs.lemmas.Bool.Decides.{nat_tests}
 use Rattle.std.specs.Char.{is_ascii_whitespace}
 use Rattle.std.proofs.lemmas.List.{append_assoc, append-nil}
 use Rattle.std.proofs.lemmas.List.Elements.{All-nil, All-cons, All-head, All-tail}
@@ -32,32 +33,17 @@ pub other_sign : (x y : ℕ) (a r q : List ℕ) → is_ascii_whitespace x ≡ fa
     → TakesPhrase (IsSign x) a r → TakesPhrase (IsSign y) a q → ⊥
 other_sign x y a r q b c differ h k = true≢false (sym (eq-eqb x y (one_sign x y a r q b c h k).0) ∙ differ)
 
--- A byte that is n, or passes another test, has P if n has it and what passes the test has it.
-pub by_byte : (P : ℕ → Type 0) (b n : ℕ) (y : Bool) → nat_eq b n || y ≡ true → P n → (y ≡ true → P b) → P b
-by_byte P b n y h p f = at (nat_eq b n) (eqb-true b n) h
-  where
-    at : (x : Bool) → (x ≡ true → b ≡ n) → x || y ≡ true → P b
-    at true is h = subst P (sym (is refl)) p
-    at false is h = f h
-
-by_type : (P : ℕ → Type 0) (b : ℕ) → follows_type b ≡ true → P 93 → P 59 → P 41 → P 44 → P 125 → P 61 → P 62 → P b
-by_type P b h p q r s t u v =
-    by_byte P b 93 _ h p λ h. by_byte P b 59 _ h q λ h. by_byte P b 41 _ h r λ h. by_byte P b 44 _ h s λ h. by_byte P b 125 _ h t λ h. by_byte P b 61 _ h u λ h. subst P (sym (eqb-true b 62 h)) v
-
-by_variant : (P : ℕ → Type 0) (b : ℕ) → follows_variant b ≡ true → P 124 → P 93 → P 59 → P 41 → P 44 → P 125 → P 61 → P 62 → P b
-by_variant P b h o p q r s t u v = by_byte P b 124 _ h o λ h. by_type P b h p q r s t u v
-
 pub follows_black : (b : ℕ) → follows_type b ≡ true → is_ascii_whitespace b ≡ false
-follows_black b h = by_type (λ x. is_ascii_whitespace x ≡ false) b h refl refl refl refl refl refl refl
+follows_black b h = grind (arith, nat_tests, h)
 
 variant_black : (b : ℕ) → follows_variant b ≡ true → is_ascii_whitespace b ≡ false
-variant_black b h = by_variant (λ x. is_ascii_whitespace x ≡ false) b h refl refl refl refl refl refl refl refl
+variant_black b h = grind (arith, nat_tests, h)
 
 follows_ends : (b : ℕ) → follows_variant b ≡ true → is_of_word b ≡ false
-follows_ends b h = by_variant (λ x. is_of_word x ≡ false) b h refl refl refl refl refl refl refl refl
+follows_ends b h = grind (arith, nat_tests, h)
 
 wider : (b : ℕ) → follows_type b ≡ true → follows_variant b ≡ true
-wider b h = by_type (λ x. follows_variant x ≡ true) b h refl refl refl refl refl refl refl
+wider b h = grind (arith, nat_tests, h)
 
 -- What follows a type follows a variant.
 pub goes_variant : (a : List ℕ) → GoesOnBy follows_type a → GoesOnBy follows_variant a
@@ -76,8 +62,7 @@ pub not_next_type : (sign : ℕ) (a r : List ℕ) → is_ascii_whitespace sign �
 not_next_type sign a r black none goes h = goes_on_not_by follows_type sign a r follows_black black none goes (sign_unblank sign a r black h)
 
 name_ends : (b : ℕ) → follows_name b ≡ true → is_of_word b ≡ false
-name_ends b h =
-    by_byte (λ x. is_of_word x ≡ false) b 124 _ h refl λ h. by_byte (λ x. is_of_word x ≡ false) b 40 _ h refl λ h. subst (λ x. is_of_word x ≡ false) (sym (eqb-true b 123 h)) refl
+name_ends b h = grind (arith, nat_tests, h)
 
 -- A text of which the first byte after blanks is `|`, `(` or `{` goes on with no word.
 pub name_ends_word : (text : List ℕ) → Starts follows_name text → EndsWord text
@@ -89,7 +74,7 @@ name_ends_word (b ∷ text) (x, after, e, pass) = by (is_ascii_whitespace b) ref
     by false black = subst (λ z. is_of_word z ≡ false) (sym (same_first (sym (unblank_black b text black) ∙ e))) (name_ends x pass)
 
 follows_no_name : (b : ℕ) → follows_type b ≡ true → follows_name b ≡ false
-follows_no_name b h = by_type (λ x. follows_name x ≡ false) b h refl refl refl refl refl refl refl
+follows_no_name b h = grind (arith, nat_tests, h)
 
 -- What follows a type begins with none of these.
 pub goes_no_name : (a : List ℕ) → GoesOnBy follows_type a → Starts follows_name a → ⊥

@@ -6,7 +6,7 @@ use Rattle.postcard_schema.specs.declared.schema.Schema.{Schema}
 use Rattle.postcard_schema.specs.declared.schema.Schema.TheVariants.{Option, Seq, Array, Tuple, Struct, Enum}
 use Rattle.postcard_schema.specs.Meaning.{has_bytes, type_of}
 use Rattle.postcard_schema_text.specs.Text.{Then, TakesPhrase, IsSign, IsMaybe, IsWord, IsIdentifier, IsVariantName, IsCount}
-use Rattle.postcard_schema_text.specs.Grammar.{Separated, IsListRest, IsTupleEnd, IsTupleRest, IsField, IsFieldsRest, IsBracesRest, IsPlain, IsReferred, IsOptions, IsContent, IsVariantText, IsLead, IsEnumText, IsType}
+use Rattle.postcard_schema_text.specs.Grammar.{Separated, IsListRest, IsTupleEnd, IsTupleRest, IsField, IsFieldsRest, IsReferred, IsOptions, IsContent, IsVariantText, IsLead, IsEnumText, IsType}
 use Rattle.postcard_schema_text.specs.Phrases.{takes_two, takes_as}
 use Rattle.postcard_schema_text.specs.Names.{IsCalled, NamesDiffer}
 
@@ -77,39 +77,6 @@ pub array_takes : (d n : ℕ) (s : Schema) (held : Box Schema Global) (a c e f g
 array_takes d n s held a c e f g element is full semicolon count close =
     takes_as _ _ a g (λ t h. inr (held, n, refl, rw is full, rw is h)) (takes_two (IsType d s) (Then (IsSign 59) (Then (IsCount n) (IsSign 93))) a c g
     element (takes_two (IsSign 59) (Then (IsCount n) (IsSign 93)) c e g semicolon (takes_two (IsCount n) (IsSign 93) e f g count close)))
-
--- Taking `[` and what follows it in a list takes a plain type.
-pub plain_list : (T : Schema → List ℕ → Type 0) (s : Schema) (a b c : List ℕ) → TakesPhrase (IsSign 91) a b → TakesPhrase (IsListRest T s) b c
-    → TakesPhrase (IsPlain T s) a c
-plain_list T s a b c sign h = takes_as (Then (IsSign 91) (IsListRest T s)) (IsPlain T s) a c (λ t k. inr (inl k)) (takes_two (IsSign 91) (IsListRest T s) a b c sign h)
-
-pub plain_tuple : (T : Schema → List ℕ → Type 0) (s : Schema) (a b c : List ℕ) → TakesPhrase (IsSign 40) a b → TakesPhrase (IsTupleRest T s) b c
-    → TakesPhrase (IsPlain T s) a c
-plain_tuple T s a b c sign h =
-    takes_as (Then (IsSign 40) (IsTupleRest T s)) (IsPlain T s) a c (λ t k. inr (inr (inl k))) (takes_two (IsSign 40) (IsTupleRest T s) a b c sign h)
-
-pub plain_braces : (T : Schema → List ℕ → Type 0) (s : Schema) (a b c : List ℕ) → TakesPhrase (IsSign 123) a b → TakesPhrase (IsBracesRest T s) b c
-    → TakesPhrase (IsPlain T s) a c
-plain_braces T s a b c sign h =
-    takes_as (Then (IsSign 123) (IsBracesRest T s)) (IsPlain T s) a c (λ t k. inr (inr (inr k))) (takes_two (IsSign 123) (IsBracesRest T s) a b c sign h)
-
--- Taking `(` and what follows it in a tuple takes a variant's content.
-pub content_tuple : (T : Schema → List ℕ → Type 0) (s : Schema) (a b c : List ℕ) → TakesPhrase (IsSign 40) a b → TakesPhrase (IsTupleRest T s) b c
-    → TakesPhrase (IsContent T s) a c
-content_tuple T s a b c sign h = takes_as (Then (IsSign 40) (IsTupleRest T s)) (IsContent T s) a c (λ t k. inl k) (takes_two (IsSign 40) (IsTupleRest T s) a b c sign h)
-
-pub content_fields : (T : Schema → List ℕ → Type 0) (s : Schema) (a b c : List ℕ) → TakesPhrase (IsSign 123) a b → TakesPhrase (IsFieldsRest T s) b c
-    → TakesPhrase (IsContent T s) a c
-content_fields T s a b c sign h =
-    takes_as (Then (IsSign 123) (IsFieldsRest T s)) (IsContent T s) a c (λ t k. inr (inl k)) (takes_two (IsSign 123) (IsFieldsRest T s) a b c sign h)
-
--- Taking `)` takes the end of a tuple of two parts or more.
-pub tuple_end : (n : ℕ) (a b : List ℕ) → 1 < n → TakesPhrase (IsSign 41) a b → TakesPhrase (IsTupleEnd n) a b
-tuple_end n a b many h = takes_as (IsSign 41) (IsTupleEnd n) a b (λ t k. inr (many, k)) h
-
--- Taking `,` and `)` takes the end of a tuple.
-pub tuple_end_comma : (n : ℕ) (a b c : List ℕ) → TakesPhrase (IsSign 44) a b → TakesPhrase (IsSign 41) b c → TakesPhrase (IsTupleEnd n) a c
-tuple_end_comma n a b c comma h = takes_as (Then (IsSign 44) (IsSign 41)) (IsTupleEnd n) a c (λ t k. inl k) (takes_two (IsSign 44) (IsSign 41) a b c comma h)
 
 -- Taking the parts and the end of a tuple takes what follows the `(` of a tuple.
 pub tuple_takes : (T : Schema → List ℕ → Type 0) (v : Vec Schema Global) (a b c : List ℕ) → TakesPhrase (Separated T 44 v.items) a b

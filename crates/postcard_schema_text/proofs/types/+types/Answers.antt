@@ -16,7 +16,7 @@ use Rattle.postcard_schema_text.specs.Fronts.{follows_variant, IsNamed, StartsEn
 use Rattle.postcard_schema_text.specs.Phrases.{takes_two, takes_as}
 use Rattle.postcard_schema_text.specs.FrontLemmas.{takes_split, word_taken}
 use Rattle.postcard_schema_text.proofs.Rows.{row_more, row_filled, begun_more}
-use Rattle.postcard_schema_text.proofs.Takes.{type_enum, type_options, options_more, plain_list, plain_tuple, plain_braces, content_tuple, content_fields, tuple_end, tuple_end_comma, enum_takes, maybe_takes, fields_take, field_takes, variant_takes, seq_takes, array_takes, tuple_takes}
+use Rattle.postcard_schema_text.proofs.Takes.{type_enum, type_options, options_more, enum_takes, maybe_takes, fields_take, field_takes, variant_takes, seq_takes, array_takes, tuple_takes}
 use Rattle.postcard_schema_text.proofs.Left.{after_sign, behind_sign, follows_black, named_alike}
 use Rattle.postcard_schema_text.proofs.LeftOfList.{ended_begins, ended_left, list_begins, list_left, array_left, seq_left}
 use Rattle.postcard_schema_text.proofs.LeftOfFields.{FieldFront, fields_begin, field_front, field_content, fields_field, fields_after, fields_close, fields_next, fields_go_on, fields_not_ended, names_more}
@@ -51,12 +51,12 @@ read_braces-returns-in-Err t c =
 pub read_content-returns-then-take : goal.read_content-returns-then-take
 read_content-returns-then-take t c =
     let sign = c.take.ensures.taken c.if-take.true in
-    reads_as c.read_tuple.ensures (λ s h. content_tuple _ s _ _ _ sign h) (λ s r h goes. (content_in_tuple _ s _ _ r h goes sign, tt))
+    reads_as c.read_tuple.ensures (λ s h. takes_as _ _ _ _ (λ z k. inl k) (takes_two (IsSign 40) _ _ _ _ sign h)) (λ s r h goes. (content_in_tuple _ s _ _ r h goes sign, tt))
 
 pub read_content-returns-then-take-2 : goal.read_content-returns-then-take-2
 read_content-returns-then-take-2 t c =
     let sign = rw (c.take.ensures.left c.if-take.false) at (c.take-2.ensures.taken c.if-take-2.true) in
-    reads_as c.read_fields.ensures (λ s h. content_fields _ s _ _ _ sign h) (λ s r h goes. (content_in_fields _ s _ _ r h goes sign, tt))
+    reads_as c.read_fields.ensures (λ s h. takes_as _ _ _ _ (λ z k. inr (inl k)) (takes_two (IsSign 123) _ _ _ _ sign h)) (λ s r h goes. (content_in_fields _ s _ _ r h goes sign, tt))
 
 pub read_content-returns : goal.read_content-returns
 read_content-returns t c =
@@ -74,17 +74,17 @@ read_content-returns t c =
 pub read_plain-returns-then-take : goal.read_plain-returns-then-take
 read_plain-returns-then-take t c =
     let sign = c.take.ensures.taken c.if-take.true in
-    reads_as c.read_list.ensures (λ s h. plain_list _ s _ _ _ sign h) (λ s r h ends. (plain_list_left _ s _ _ r h sign, tt))
+    reads_as c.read_list.ensures (λ s h. takes_as _ _ _ _ (λ z k. inr (inl k)) (takes_two (IsSign 91) _ _ _ _ sign h)) (λ s r h ends. (plain_list_left _ s _ _ r h sign, tt))
 
 pub read_plain-returns-then-take-2 : goal.read_plain-returns-then-take-2
 read_plain-returns-then-take-2 t c =
     let sign = rw (c.take.ensures.left c.if-take.false) at (c.take-2.ensures.taken c.if-take-2.true) in
-    reads_as c.read_tuple.ensures (λ s h. plain_tuple _ s _ _ _ sign h) (λ s r h ends. (plain_tuple_left _ s _ _ r h sign, tt))
+    reads_as c.read_tuple.ensures (λ s h. takes_as _ _ _ _ (λ z k. inr (inr (inl k))) (takes_two (IsSign 40) _ _ _ _ sign h)) (λ s r h ends. (plain_tuple_left _ s _ _ r h sign, tt))
 
 pub read_plain-returns-then-take-3 : goal.read_plain-returns-then-take-3
 read_plain-returns-then-take-3 t c =
     let sign = rw (c.take-2.ensures.left c.if-take-2.false ∙ c.take.ensures.left c.if-take.false) at (c.take-3.ensures.taken c.if-take-3.true) in
-    reads_as c.read_braces.ensures (λ s h. plain_braces _ s _ _ _ sign h) (λ s r h ends. (plain_braces_left _ s _ _ r h sign, tt))
+    reads_as c.read_braces.ensures (λ s h. takes_as _ _ _ _ (λ z k. inr (inr (inr k))) (takes_two (IsSign 123) _ _ _ _ sign h)) (λ s r h ends. (plain_braces_left _ s _ _ r h sign, tt))
 
 pub read_plain-returns : goal.read_plain-returns
 read_plain-returns t c =
@@ -553,7 +553,7 @@ read_tuple-returns-then-take-3 t c =
     let comma = c.in_ok-expect.ensures.taken in
     let close = c.take-in-loop.ensures.taken c.if-take-3.true in
     record {
-      spelled = tuple_takes _ v _ _ _ c.loop.invariant.taken (tuple_end_comma (length v.items) _ _ _ comma close);
+      spelled = tuple_takes _ v _ _ _ c.loop.invariant.taken (takes_as _ _ _ _ (λ t k. inl k) (takes_two (IsSign 44) (IsSign 41) _ _ _ comma close));
       one = λ s r h free. let k = tuple_comma_close _ _ s _ _ _ r (c.loop.invariant.left s r h) comma close in (k.0 ∙ sym (type_of_tuple v), k.1);
       refused = tt;
     }
@@ -584,7 +584,7 @@ read_tuple-returns-then-take-4 t c =
     let some : 0 < length done = row_filled _ 44 done c.loop.invariant.taken.0 c.loop.invariant.taken.1 in
     let long : length v.items ≡ length done + 1 = ap length added ∙ length_push done c.in_ok-part.part in
     record {
-      spelled = tuple_takes _ v _ _ _ (rw added row) (tuple_end (length v.items) _ _ (omega (arith, some, long)) close);
+      spelled = tuple_takes _ v _ _ _ (rw added row) (takes_as _ _ _ _ (λ t k. inr (omega (arith, some, long), k)) close);
       one = λ s r h free.
           let k = tuple_close _ _ s _ _ r (tuple_after _ _ s _ _ _ r (tuple_next _ _ s _ _ r (c.loop.invariant.left s r h) comma unclosed) one) close in
           (k.0 ∙ sym (type_of_tuple v ∙ ap (λ ss. group (types_of ss)) added), k.1);
