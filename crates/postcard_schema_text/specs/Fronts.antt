@@ -18,7 +18,8 @@ follows_variant b = nat_eq b 124 || follows_type b
 
 -- The text begins with a word, not an empty one, and then a `:`.
 abbrev pub IsNamed : List ℕ → Type 0
-IsNamed text = (word : List ℕ) × (after : List ℕ) × (rest : List ℕ) × (0 < length word) × TakesPhrase (IsWord word) text after × TakesPhrase (IsSign 58) after rest
+IsNamed text = (word : List ℕ) × (after : List ℕ) × (rest : List ℕ) × (0 < length word) × TakesPhrase (IsWord word) text after
+    × TakesPhrase (IsSign 58) after rest
 
 -- The first byte after blanks passes the test.
 abbrev pub Starts : (ℕ → Bool) → List ℕ → Type 0
@@ -52,9 +53,10 @@ IsOnlyFront {A} Same Next P y text rest = (x : A) (after : List ℕ) → TakesPh
 abbrev pub IsRefusal : Problem → Type 0 → Type 0
 IsRefusal problem Accepted = (problem ≡ OutOfMemory) ⊎ (Accepted → ⊥)
 
--- A call that reads from the start of the text, and leaves `rest`: it takes the only prefix that is a phrase of P, or refuses a text
--- that has none.
-pub record Reads {A : Type 0} (Same : A → A → Type 0) (Next : List ℕ → Type 0) (P : A → List ℕ → Type 0) (text : List ℕ) (result : Result A ProblemAt) (rest : List ℕ) : Type 0 where
+-- A call that reads from the start of the text, and leaves `rest`. It takes a phrase of P. Each phrase of P there is the same as this one, if
+-- a text of Next follows it. The call refuses a text that has no such phrase.
+pub record Reads {A : Type 0} (Same : A → A → Type 0) (Next : List ℕ → Type 0) (P : A → List ℕ → Type 0) (text : List ℕ)
+    (result : Result A ProblemAt) (rest : List ℕ) : Type 0 where
   pub spelled : IfOk result (λ y. TakesPhrase (P y) text rest)
   pub one : IfOk result (λ y. IsOnlyFront Same Next P y text rest)
   pub refused : IfErr result (λ found. IsRefusal found.problem (HasFront Next P text))
@@ -67,10 +69,10 @@ SameType x y = type_of x ≡ type_of y
 abbrev pub SameNamed : Named Schema → Named Schema → Type 0
 SameNamed x y = SameType x.content y.content × (string_bytes x.name ≡ string_bytes y.name)
 
--- The same of a call that reads a type.
+-- A call that reads a type.
 abbrev pub ReadsType : (List ℕ → Type 0) → (Schema → List ℕ → Type 0) → List ℕ → Result Schema ProblemAt → List ℕ → Type 0
 ReadsType = Reads SameType
 
--- The same of a call that reads a field or a variant.
+-- A call that reads a field or a variant.
 abbrev pub ReadsNamed : (List ℕ → Type 0) → (Named Schema → List ℕ → Type 0) → List ℕ → Result (Named Schema) ProblemAt → List ℕ → Type 0
 ReadsNamed = Reads SameNamed
