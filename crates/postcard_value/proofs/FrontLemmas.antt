@@ -42,19 +42,35 @@ reads_join [] us a b h k = rw h k
 reads_join (s ∷ ss) us a b (t, ts, e, r, h) k = rw e (t, join ts b, refl, r, reads_join ss us ts b h k)
 
 -- One value more in a row of values.
-pub each_more : (t : MessageType) (n : ℕ) (tree : Tree) (done front : List ℕ) → SpellsEach t n done → reads t tree → Spells tree front → SpellsEach t (n + 1) (done ++ front)
-each_more t n tree done front a r s =
-    (join a.0 (Then tree NoTrees), (omega (arith, count_join a.0 (Then tree NoTrees), a.1.0), each_join _ a.0 _ a.1.1 (r, tt)), all_join a.0 _ _ _ a.2 (alone tree _ s))
+pub each_more : (t : MessageType) (n : ℕ) (tree : Tree) (done front : List ℕ) → SpellsEach t n done → reads t tree → Spells tree front
+    → SpellsEach t (n + 1) (done ++ front)
+each_more t n tree done front a r s = (
+  join a.0 (Then tree NoTrees),
+  (
+    omega (arith, count_join a.0 (Then tree NoTrees), a.1.0),
+    each_join _ a.0 _ a.1.1
+        (r, tt),
+  ),
+  all_join a.0 _ _ _ a.2 (alone tree _ s),
+)
 
 -- The key and the value of an entry are the entry.
 pub entry_spelled : (k v : MessageType) (p q : List ℕ) → FrontSpells k p → FrontSpells v q → FrontSpells (entry_of k v) (p ++ q)
-entry_spelled k v p q (s, r, f) (t, u, h) =
-    (Group (Then s (Then t NoTrees)), (Then s (Then t NoTrees), refl, (s, Then t NoTrees, refl, r, (t, NoTrees, refl, u, refl))), (p, q, f, alone t q h, refl))
+entry_spelled k v p q (s, r, f) (t, u, h) = (
+  Group (Then s (Then t NoTrees)),
+  (Then s (Then t NoTrees), refl, (s, Then t NoTrees, refl, r, (t, NoTrees, refl, u, refl))),
+  (p, q, f, alone t q h, refl),
+)
 
 -- One part more of a tuple, and one field more of a struct.
-pub parts_more : (ss : List Schema) (x : Schema) (done front : List ℕ) → SpellsParts ss done → FrontSpells (type_of x) front → SpellsParts (ss ++ x ∷ []) (done ++ front)
-parts_more ss x done front a b =
-    (join a.0 (Then b.0 NoTrees), reads_join ss (x ∷ []) a.0 (Then b.0 NoTrees) a.1 (b.0, NoTrees, refl, b.1, refl), all_join a.0 _ _ _ a.2 (alone b.0 _ b.2))
+pub parts_more : (ss : List Schema) (x : Schema) (done front : List ℕ) → SpellsParts ss done → FrontSpells (type_of x) front
+    → SpellsParts (ss ++ x ∷ []) (done ++ front)
+parts_more ss x done front a b = (
+  join a.0 (Then b.0 NoTrees),
+  reads_join ss (x ∷ []) a.0 (Then b.0 NoTrees) a.1 (b.0, NoTrees, refl, b.1, refl),
+  all_join a.0 _ _ _ a.2
+      (alone b.0 _ b.2),
+)
 
 pub part_more : (xs : List Schema) (i : ℕ) (x : Schema) (done front : List ℕ) → i < length xs → x ≡ get_or xs i x → SpellsParts (take i xs) done
     → FrontSpells (type_of x) front → SpellsParts (take (i + 1) xs) (done ++ front)
@@ -66,22 +82,29 @@ contents_join : (ns ms : List (Named Schema)) → contents (ns ++ ms) ≡ conten
 contents_join [] ms = refl
 contents_join (n ∷ ns) ms = ap (λ xs. n.content ∷ xs) (contents_join ns ms)
 
-pub field_more : (xs : List (Named Schema)) (i : ℕ) (x : Named Schema) (done front : List ℕ) → i < length xs → x ≡ get_or xs i x → SpellsParts (contents (take i xs)) done
+pub field_more : (xs : List (Named Schema)) (i : ℕ) (x : Named Schema) (done front : List ℕ) → i < length xs → x ≡ get_or xs i x
+    → SpellsParts (contents (take i xs)) done
     → FrontSpells (type_of x.content) front → SpellsParts (contents (take (i + 1) xs)) (done ++ front)
 field_more xs i x done front low found d f =
     let more : take (i + 1) xs ≡ take i xs ++ x ∷ [] = take_more xs i x low ∙ ap (λ y. take i xs ++ y ∷ []) (sym found) in
     rw (more, contents_join (take i xs) (x ∷ [])) (parts_more (contents (take i xs)) x.content done front d f)
 
 -- A number that is read is in its range, and spelled by the front.
-pub number_read : (w : ℕ) (tree : Tree) (v : ℕ) (front : List ℕ) → IsNum w tree → tree ≡ Num w v → Spells tree front → (v < 2 ^ w) × SpellsNum w v front
+pub number_read : (w : ℕ) (tree : Tree) (v : ℕ) (front : List ℕ) → IsNum w tree → tree ≡ Num w v → Spells tree front
+    → (v < 2 ^ w) × SpellsNum w v front
 number_read w tree v front (n, is, low) e s = (rw (num_same w v n (sym e ∙ is)) low, rw e at s)
 
 -- ---- the next part of a value that can't be read
 
-pub option_none : (s : Schema) (content : Box Schema Global) (bytes rest : List ℕ) → s ≡ schemas.Option content → bytes ≡ 1 ∷ rest → HasNoFront s bytes
+pub option_none : (s : Schema) (content : Box Schema Global) (bytes rest : List ℕ) → s ≡ schemas.Option content → bytes ≡ 1 ∷ rest
+    → HasNoFront s bytes
     → HasNoFront content.value rest
 option_none s content bytes rest is cut none = λ front after here f.
-    none (1 ∷ front) after (cut ∙ ap (λ x. 1 ∷ x) here) (rw (is, type_of_option content) (Present f.0, inr (f.0, refl, f.1), (1 ∷ [], front, refl, f.2, refl)))
+    none (1 ∷ front) after (cut ∙ ap (λ x. 1 ∷ x) here) (rw (is, type_of_option content) (
+      Present f.0,
+      inr (f.0, refl, f.1),
+      (1 ∷ [], front, refl, f.2, refl),
+    ))
 
 pub list_none : (s : Schema) (element : Box Schema Global) (bytes count rest : List ℕ) (n : ℕ) → s ≡ schemas.Seq element → bytes ≡ count ++ rest
     → n < 2 ^ 64 → SpellsNum 64 n count → HasNoFront s bytes → HasNoRow (type_of element.value) n rest
@@ -100,7 +123,8 @@ pub array_none : (s : Schema) (element : Box Schema Global) (bytes : List ℕ) (
 array_none s element bytes n is none = λ front rest cut r.
     none front rest cut (rw (is, type_of_array element n) (Group r.0, (r.0, refl, r.1.0, r.1.1), r.2))
 
-pub tuple_none : (s : Schema) (parts : Vec Schema Global) (bytes front rest : List ℕ) → s ≡ schemas.Tuple parts → bytes ≡ front ++ rest → SpellsParts parts.items front
+pub tuple_none : (s : Schema) (parts : Vec Schema Global) (bytes front rest : List ℕ) → s ≡ schemas.Tuple parts → bytes ≡ front ++ rest
+    → SpellsParts parts.items front
     → HasNoFront s bytes → ⊥
 tuple_none s parts bytes front rest is cut (ts, r, f) none = none front rest cut (rw (is, type_of_tuple parts) (Group ts, (ts, refl, r), f))
 
@@ -108,8 +132,10 @@ pub struct_none : (s : Schema) (fields : Vec (Named Schema) Global) (bytes front
     → SpellsParts (contents fields.items) front → HasNoFront s bytes → ⊥
 struct_none s fields bytes front rest is cut (ts, r, f) none = none front rest cut (rw (is, type_of_struct fields) (Group ts, (ts, refl, r), f))
 
-pub variant_none : (s : Schema) (variants : Vec (Named Schema) Global) (bytes index rest : List ℕ) (i : ℕ) (x : Named Schema) → s ≡ schemas.Enum variants
-    → i < length variants.items → x ≡ get_or variants.items i x → bytes ≡ index ++ rest → i < 2 ^ 32 → SpellsNum 32 i index → HasNoFront s bytes → HasNoFront x.content rest
+pub variant_none : (s : Schema) (variants : Vec (Named Schema) Global) (bytes index rest : List ℕ) (i : ℕ) (x : Named Schema)
+    → s ≡ schemas.Enum variants
+    → i < length variants.items → x ≡ get_or variants.items i x → bytes ≡ index ++ rest → i < 2 ^ 32 → SpellsNum 32 i index → HasNoFront s bytes
+    → HasNoFront x.content rest
 variant_none s variants bytes index rest i x is low found cut few num none =
     let at : reads_at (types_of (contents variants.items)) i ≡ reads (type_of x.content) = content_at variants.items i x low found in
     λ front after here f.
@@ -123,12 +149,15 @@ greatest_at [] i x low e = absurd (omega (arith, low))
 greatest_at (s ∷ ss) zero x low e = let same : depth (type_of x) ≡ depth (type_of s) = ap (λ y. depth (type_of y)) e in omega (arith, same)
 greatest_at (s ∷ ss) (suc i) x low e = omega (arith, greatest_at ss i x (omega (arith, low)) e)
 
-greatest_content : (ns : List (Named Schema)) (i : ℕ) (x : Named Schema) → i < length ns → x ≡ get_or ns i x → depth (type_of x.content) ≤ greatest_depth (types_of (contents ns))
+greatest_content : (ns : List (Named Schema)) (i : ℕ) (x : Named Schema) → i < length ns → x ≡ get_or ns i x
+    → depth (type_of x.content) ≤ greatest_depth (types_of (contents ns))
 greatest_content [] i x low e = absurd (omega (arith, low))
-greatest_content (n ∷ ns) zero x low e = let same : depth (type_of x.content) ≡ depth (type_of n.content) = ap (λ y. depth (type_of y.content)) e in omega (arith, same)
+greatest_content (n ∷ ns) zero x low e = let same : depth (type_of x.content) ≡ depth (type_of n.content) = ap (λ y. depth
+    (type_of y.content)) e in omega (arith, same)
 greatest_content (n ∷ ns) (suc i) x low e = omega (arith, greatest_content ns i x (omega (arith, low)) e)
 
-pub part_depth : (s : Schema) (parts : Vec Schema Global) (i : ℕ) (x : Schema) → s ≡ schemas.Tuple parts → i < length parts.items → x ≡ get_or parts.items i x
+pub part_depth : (s : Schema) (parts : Vec Schema Global) (i : ℕ) (x : Schema) → s ≡ schemas.Tuple parts → i < length parts.items
+    → x ≡ get_or parts.items i x
     → depth (type_of x) < depth (type_of s)
 part_depth s parts i x is low found = rw (is, type_of_tuple parts) (omega (arith, greatest_at parts.items i x low found))
 
@@ -136,7 +165,8 @@ pub field_depth : (s : Schema) (fields : Vec (Named Schema) Global) (i : ℕ) (x
     → x ≡ get_or fields.items i x → depth (type_of x.content) < depth (type_of s)
 field_depth s fields i x is low found = rw (is, type_of_struct fields) (omega (arith, greatest_content fields.items i x low found))
 
-pub variant_depth : (s : Schema) (variants : Vec (Named Schema) Global) (i : ℕ) (x : Named Schema) → s ≡ schemas.Enum variants → i < length variants.items
+pub variant_depth : (s : Schema) (variants : Vec (Named Schema) Global) (i : ℕ) (x : Named Schema) → s ≡ schemas.Enum variants
+    → i < length variants.items
     → x ≡ get_or variants.items i x → depth (type_of x.content) < depth (type_of s)
 variant_depth s variants i x is low found = rw (is, type_of_enum variants) (omega (arith, greatest_content variants.items i x low found))
 
@@ -149,5 +179,6 @@ list_depth s b is = rw (is, type_of_seq b) (omega arith)
 pub array_depth : (s : Schema) (b : Box Schema Global) (n : ℕ) → s ≡ schemas.Array b n → depth (type_of b.value) < depth (type_of s)
 array_depth s b n is = rw (is, type_of_array b n) (omega arith)
 
-pub entry_depth : (s : Schema) (k v : Box Schema Global) → s ≡ schemas.Map k v → (depth (type_of k.value) < depth (type_of s)) × (depth (type_of v.value) < depth (type_of s))
+pub entry_depth : (s : Schema) (k v : Box Schema Global) → s ≡ schemas.Map k v
+    → (depth (type_of k.value) < depth (type_of s)) × (depth (type_of v.value) < depth (type_of s))
 entry_depth s k v is = rw (is, type_of_map k v) (omega arith, omega arith)

@@ -12,8 +12,10 @@ use Rattle.postcard_value.specs.Fronts.{HasNoFront}
 use Rattle.postcard_value.specs.Refused.{Entered, StopsAt, StopsHere, here, inside, Finds, FindsElement, FindsEntry, in_list, in_array, in_key, in_value}
 use Rattle.postcard_value.proofs.FrontLemmas.{list_none, map_none, array_none, list_depth, array_depth, entry_depth}
 
-pub list_finds : (s : Schema) (element : Box Schema Global) (bytes count rest : List ℕ) (n : ℕ) → s ≡ schemas.Seq element → bytes ≡ count ++ rest → n < 2 ^ 64
-    → SpellsNum 64 n count → (old new : List Step) (found : Option (Bor Schema × Bor (List ℕ))) → FindsElement element.value n rest old new found → Finds s bytes old new found
+pub list_finds : (s : Schema) (element : Box Schema Global) (bytes count rest : List ℕ) (n : ℕ) → s ≡ schemas.Seq element → bytes ≡ count ++ rest
+    → n < 2 ^ 64
+    → SpellsNum 64 n count → (old new : List Step) (found : Option (Bor Schema × Bor (List ℕ))) → FindsElement element.value n rest old new found
+    → Finds s bytes old new found
 list_finds s element bytes count rest n is cut few num old new None (row, same) =
     (λ none. absurd (row (list_none s element bytes count rest n is cut few num none)), same)
 list_finds s element bytes count rest n is cut few num old new (Some part) (i, front, low, each, more, join, lack, own) =
@@ -36,7 +38,8 @@ array_finds s element bytes n is old new (Some part) (i, front, low, each, more,
     rw own ((front, Element i ∷ [], in_array s element n i front is low each, more, join, λ none. rw own at lack), array_depth s element n is)
 
 pub map_finds : (s : Schema) (k v : Box Schema Global) (bytes count rest : List ℕ) (n : ℕ) → s ≡ schemas.Map k v → bytes ≡ count ++ rest → n < 2 ^ 64
-    → SpellsNum 64 n count → (old new : List Step) (found : Option (Bor Schema × Bor (List ℕ))) → FindsEntry k.value v.value n rest old new found → Finds s bytes old new found
+    → SpellsNum 64 n count → (old new : List Step) (found : Option (Bor Schema × Bor (List ℕ))) → FindsEntry k.value v.value n rest old new found
+    → Finds s bytes old new found
 map_finds s k v bytes count rest n is cut few num old new None (row, same) =
     (λ none. absurd (row (map_none s k v bytes count rest n is cut few num none)), same)
 map_finds s k v bytes count rest n is cut few num old new (Some part) (i, front, low, each, lack, inl (more, join, own)) =
@@ -69,7 +72,8 @@ pub some_found : (s : Schema) (bytes : List ℕ) (old new : List Step) (found : 
     → found ≡ Some part → Finds s bytes old new found → Entered s bytes old new part.0.now part.1.now
 some_found s bytes old new found part is h = (rw is at h).0
 
-pub none_found : (s : Schema) (bytes : List ℕ) (old new : List Step) (found : Option (Bor Schema × Bor (List ℕ))) → found ≡ None → Finds s bytes old new found
+pub none_found : (s : Schema) (bytes : List ℕ) (old new : List Step) (found : Option (Bor Schema × Bor (List ℕ))) → found ≡ None
+    → Finds s bytes old new found
     → (HasNoFront s bytes → StopsHere s bytes) × (new ≡ old)
 none_found s bytes old new found is h = rw is at h
 
@@ -80,7 +84,8 @@ module _ (s x : Schema) (bytes done rest : List ℕ) (now new : List Step)
       → StopsAt s bytes (new ++ path) (length (done ++ d.0) + offset)
   stops_inside y after (front, steps, enters, more, join, lack) path offset stops =
       let total : length (done ++ front) + offset ≡ length done + (length front + offset) = omega (arith, length-append done front) in
-      rw (more, append_assoc now steps path, total) (so (steps ++ path) (length front + offset) (inside x y rest front after steps path offset enters join stops))
+      rw (more, append_assoc now steps path, total) (so (steps ++ path) (length front + offset)
+      (inside x y rest front after steps path offset enters join stops))
 
   pub stops_here : (offset : ℕ) → StopsHere x rest → new ≡ now → offset ≡ length done + 0 → StopsAt s bytes new offset
   stops_here offset h same size = rw (same, size) (rw append-nil at (so [] 0 (here x rest h)))

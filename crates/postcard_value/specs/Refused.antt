@@ -25,7 +25,8 @@ pub data StopsHere : Schema → List ℕ → Type 0 where
   at_flag : (s : Schema) (bytes : List ℕ) (content : Box Schema Global) → s ≡ schemas.Option content → HasNoFront s bytes
       → ((rest : List ℕ) → bytes ≡ 1 ∷ rest → ⊥) → StopsHere s bytes
   at_count : (s : Schema) (bytes : List ℕ) → IsCounted s → HasNoCount bytes → StopsHere s bytes
-  at_index : (s : Schema) (bytes : List ℕ) (variants : Vec (Named Schema) Global) → s ≡ schemas.Enum variants → HasNoIndex (length variants.items) bytes
+  at_index : (s : Schema) (bytes : List ℕ) (variants : Vec (Named Schema) Global) → s ≡ schemas.Enum variants
+      → HasNoIndex (length variants.items) bytes
       → StopsHere s bytes
 
 -- `Enters s front steps x`: these steps lead from a value of s to a part of the schema x, before which it has the bytes `front`.
@@ -34,9 +35,12 @@ pub data Enters : Schema → List ℕ → List Step → Schema → Type 0 where
   -- An element of a list, and the key and the value of an entry.
   in_list : (s : Schema) (element : Box Schema Global) (n i : ℕ) (count front : List ℕ) → s ≡ schemas.Seq element → n < 2 ^ 64 → SpellsNum 64 n count
       → i < n → SpellsEach (type_of element.value) i front → Enters s (count ++ front) (Element i ∷ []) element.value
-  in_key : (s : Schema) (key value : Box Schema Global) (n i : ℕ) (count front : List ℕ) → s ≡ schemas.Map key value → n < 2 ^ 64 → SpellsNum 64 n count
-      → i < n → SpellsEach (entry_of (type_of key.value) (type_of value.value)) i front → Enters s (count ++ front) (Element i ∷ Part 0 ∷ []) key.value
-  in_value : (s : Schema) (key value : Box Schema Global) (n i : ℕ) (count front own : List ℕ) → s ≡ schemas.Map key value → n < 2 ^ 64 → SpellsNum 64 n count
+  in_key : (s : Schema) (key value : Box Schema Global) (n i : ℕ) (count front : List ℕ) → s ≡ schemas.Map key value → n < 2 ^ 64
+      → SpellsNum 64 n count
+      → i < n → SpellsEach (entry_of (type_of key.value) (type_of value.value)) i front
+      → Enters s (count ++ front) (Element i ∷ Part 0 ∷ []) key.value
+  in_value : (s : Schema) (key value : Box Schema Global) (n i : ℕ) (count front own : List ℕ) → s ≡ schemas.Map key value → n < 2 ^ 64
+      → SpellsNum 64 n count
       → i < n → SpellsEach (entry_of (type_of key.value) (type_of value.value)) i front → FrontSpells (type_of key.value) own
       → Enters s (count ++ (front ++ own)) (Element i ∷ Part 1 ∷ []) value.value
   in_array : (s : Schema) (element : Box Schema Global) (n i : ℕ) (front : List ℕ) → s ≡ schemas.Array element n → i < n
@@ -44,11 +48,15 @@ pub data Enters : Schema → List ℕ → List Step → Schema → Type 0 where
   -- A part of a tuple, a field of a struct, and the content of a variant.
   in_tuple : (s : Schema) (parts : Vec Schema Global) (i : ℕ) (x : Schema) (front : List ℕ) → s ≡ schemas.Tuple parts → i < length parts.items
       → x ≡ get_or parts.items i x → SpellsParts (take i parts.items) front → Enters s front (Part i ∷ []) x
-  in_struct : (s : Schema) (fields : Vec (Named Schema) Global) (i : ℕ) (field : Named Schema) (name : Bor (List ℕ)) (front : List ℕ) → s ≡ schemas.Struct fields
-      → i < length fields.items → field ≡ get_or fields.items i field → name.now ≡ string_bytes field.name → SpellsParts (contents (take i fields.items)) front
+  in_struct : (s : Schema) (fields : Vec (Named Schema) Global) (i : ℕ) (field : Named Schema) (name : Bor (List ℕ)) (front : List ℕ)
+      → s ≡ schemas.Struct fields
+      → i < length fields.items → field ≡ get_or fields.items i field → name.now ≡ string_bytes field.name
+      → SpellsParts (contents (take i fields.items)) front
       → Enters s front (Name name ∷ []) field.content
-  in_variant : (s : Schema) (variants : Vec (Named Schema) Global) (i : ℕ) (variant : Named Schema) (name : Bor (List ℕ)) (index : List ℕ) → s ≡ schemas.Enum variants
-      → i < length variants.items → variant ≡ get_or variants.items i variant → name.now ≡ string_bytes variant.name → i < 2 ^ 32 → SpellsNum 32 i index
+  in_variant : (s : Schema) (variants : Vec (Named Schema) Global) (i : ℕ) (variant : Named Schema) (name : Bor (List ℕ)) (index : List ℕ)
+      → s ≡ schemas.Enum variants
+      → i < length variants.items → variant ≡ get_or variants.items i variant → name.now ≡ string_bytes variant.name → i < 2 ^ 32
+      → SpellsNum 32 i index
       → Enters s index (Name name ∷ []) variant.content
 
 -- Reading a value of the schema from a front of the bytes stops at the part with this path in it, which begins at this offset: all before it
@@ -70,7 +78,8 @@ IsPathOf schema bytes text = (path : List Step) × (offset : ℕ) × IsRefusedAt
 -- front of `rest`. If the value can't be read, the part can't.
 abbrev pub Entered : Schema → List ℕ → List Step → List Step → Schema → List ℕ → Type 0
 Entered s bytes old new x rest =
-    (front : List ℕ) × (steps : List Step) × Enters s front steps x × (new ≡ old ++ steps) × (bytes ≡ front ++ rest) × (HasNoFront s bytes → HasNoFront x rest)
+    (front : List ℕ) × (steps : List Step) × Enters s front steps x × (new ≡ old ++ steps) × (bytes ≡ front ++ rest) × (HasNoFront s bytes
+    → HasNoFront x rest)
 
 -- What a call found that went from a value of the schema to the part in which reading it stops: that part, which is less deep, and the bytes
 -- from it on, or, if it stops at the first node, nothing.
@@ -92,4 +101,5 @@ FindsEntry k v n bytes old new found =
     MatchOption found ((HasNoRow (entry_of (type_of k) (type_of v)) n bytes → ⊥) × (new ≡ old))
     (λ part. (i : ℕ) × (front : List ℕ) × (i < n) × SpellsEach (entry_of (type_of k) (type_of v)) i front × HasNoFront part.0.now part.1.now
     × (((new ≡ old ++ Element i ∷ Part 0 ∷ []) × (bytes ≡ front ++ part.1.now) × (part.0.now ≡ k))
-    ⊎ ((own : List ℕ) × FrontSpells (type_of k) own × (new ≡ old ++ Element i ∷ Part 1 ∷ []) × (bytes ≡ (front ++ own) ++ part.1.now) × (part.0.now ≡ v))))
+    ⊎ ((own : List ℕ) × FrontSpells (type_of k) own × (new ≡ old ++ Element i ∷ Part 1 ∷ []) × (bytes ≡ (front ++ own) ++ part.1.now) ×
+    (part.0.now ≡ v))))

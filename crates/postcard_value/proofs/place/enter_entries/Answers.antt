@@ -18,6 +18,7 @@ loop-i-preserved c =
     let e = entry_spelled k v r.front q.front (r.tree, r.is_read, r.is_spelled) (q.tree, q.is_read, q.is_spelled) in (
       so.0 ++ (r.front ++ q.front),
       each_more (entry_of k v) c.loop-i.i e.0 so.0 (r.front ++ q.front) so.1 e.1 e.2,
-      so.2 ∙ ap (λ x. so.0 ++ x) (r.joins ∙ ap (λ x. r.front ++ x) q.joins ∙ sym (append_assoc r.front q.front after)) ∙ sym (append_assoc so.0 (r.front ++ q.front) after),
+      so.2 ∙ ap (λ x. so.0 ++ x) (r.joins ∙ ap (λ x. r.front ++ x) q.joins ∙ sym (append_assoc r.front q.front after)) ∙ sym (append_assoc so.0
+          (r.front ++ q.front) after),
       so.3,
     )

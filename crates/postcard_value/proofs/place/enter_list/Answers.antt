@@ -14,5 +14,8 @@ returns-in-Ok-clause-found c = λ s held is inner.
     (rw (← inner) at c.enter_elements.ensures.found)
 
 pub returns-in-Err-clause-found : goal.returns-in-Err-clause-found
-returns-in-Err-clause-found c = λ s held is inner.
-    (λ none. at_count s _ (inl (held, is)) (λ n front rest low num cut. (c.in-Err.ensures.accepts (Num 64 n) front rest (n, refl, low) num cut).1), refl)
+returns-in-Err-clause-found c = λ s held is inner. (
+  λ none. at_count s _ (inl (held, is)) (λ n front rest low num cut. (c.in-Err.ensures.accepts (Num 64 n) front rest
+      (n, refl, low) num cut).1),
+  refl,
+)

@@ -14,5 +14,8 @@ returns-in-Ok-clause-found c = λ s k v is one two.
     (rw (← one, ← two) at c.enter_entries.ensures.found)
 
 pub returns-in-Err-clause-found : goal.returns-in-Err-clause-found
-returns-in-Err-clause-found c = λ s k v is one two.
-    (λ none. at_count s _ (inr (k, v, is)) (λ n front rest low num cut. (c.in-Err.ensures.accepts (Num 64 n) front rest (n, refl, low) num cut).1), refl)
+returns-in-Err-clause-found c = λ s k v is one two. (
+  λ none. at_count s _ (inr (k, v, is)) (λ n front rest low num cut. (c.in-Err.ensures.accepts (Num 64 n) front rest
+      (n, refl, low) num cut).1),
+  refl,
+)

@@ -5,8 +5,11 @@ use Rattle.postcard_value.proofs.FrontLemmas.{option_none, option_depth}
 use Rattle.postcard_value.proofs.place.enter_option.Goals as goal
 
 pub returns-in_default : goal.returns-in_default
-returns-in_default c = λ s held steps is inner.
-    (λ none. at_flag s _ held is none (λ rest cut. let more : length (1 ∷ rest) ≡ 0 = sym (ap length cut) ∙ c.in_default.ensures.cases in grind (arith, common_steps, more)), refl)
+returns-in_default c = λ s held steps is inner. (
+  λ none. at_flag s _ held is none (λ rest cut. let more : length (1 ∷ rest) ≡ 0 = sym (ap length cut) ∙ c.in_default.ensures.cases in grind
+      (arith, common_steps, more)),
+  refl,
+)
 
 pub returns-then-first-ne1 : goal.returns-then-first-ne1
 returns-then-first-ne1 c = λ s held steps is inner.

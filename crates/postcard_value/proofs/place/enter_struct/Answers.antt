@@ -42,5 +42,6 @@ pub returns-clause-found : goal.returns-clause-found
 returns-clause-found c = λ s is.
     let so = c.loop-field.invariant in
     let xs = c.deref-field-items.result.now in
-    let whole : take c.loop-field.field-index xs ≡ c.args.fields.now.items = take_all c.loop-field.field-index xs (omega arith) ∙ c.deref-field-items.ensures.value in
+    let whole : take c.loop-field.field-index xs ≡ c.args.fields.now.items = take_all c.loop-field.field-index xs
+    (omega arith) ∙ c.deref-field-items.ensures.value in
     (λ none. absurd (struct_none s c.args.fields.now c.args.bytes.now so.0 c.loop-field.rest.now is so.2 (rw whole at so.1) none), so.3)

@@ -18,8 +18,11 @@ returns-in-None-clause-found c = λ s is.
     )
 
 pub returns-in-Err-clause-found : goal.returns-in-Err-clause-found
-returns-in-Err-clause-found c = λ s is.
-    (λ none. at_index s _ c.args.variants.now is (λ i front rest low few num cut. (c.in-Err.ensures.accepts (Num 32 i) front rest (i, refl, few) num cut).1), refl)
+returns-in-Err-clause-found c = λ s is. (
+  λ none. at_index s _ c.args.variants.now is (λ i front rest low few num cut. (c.in-Err.ensures.accepts (Num 32 i) front rest
+      (i, refl, few) num cut).1),
+  refl,
+)
 
 pub returns-in_ok-push-in-Some-clause-found : goal.returns-in_ok-push-in-Some-clause-found
 returns-in_ok-push-in-Some-clause-found c = λ s is.

@@ -7,7 +7,8 @@ loop-steps-preserved c =
     let so = c.loop-steps.invariant in
     let now = c.loop-steps in
     let after = c.in-Some.after.now in
-    let d = some_found now.part.now now.rest.now now.steps.items c.enter.new.path.items _ (c.in-Some.inner, c.in-Some.after) c.in-Some.is c.in_ok-inner.ensures.found in (
+    let d = some_found now.part.now now.rest.now now.steps.items c.enter.new.path.items _
+    (c.in-Some.inner, c.in-Some.after) c.in-Some.is c.in_ok-inner.ensures.found in (
       so.0 ++ d.0,
       so.1 ∙ ap (λ q. so.0 ++ q) d.4 ∙ sym (append_assoc so.0 d.0 after),
       λ none. d.5 (so.2 none),
@@ -20,4 +21,5 @@ returns-clause-at c = λ none.
     let now = c.loop-steps in
     let e = none_found now.part.now now.rest.now now.steps.items c.enter.new.path.items _ c.in_default.is c.in_ok-inner.ensures.found in
     let size : c.saturating_sub.result ≡ length so.0 + 0 = omega (arith, c.saturating_sub.ensures, ap length so.1, length-append so.0 now.rest.now) in
-    stops_here c.args.schema.now now.part.now c.args.bytes.now so.0 now.rest.now now.steps.items c.enter.new.path.items so.3 _ (e.0 (so.2 none)) e.1 size
+    stops_here c.args.schema.now now.part.now c.args.bytes.now so.0 now.rest.now now.steps.items c.enter.new.path.items so.3 _ (e.0
+    (so.2 none)) e.1 size
