@@ -51,7 +51,8 @@ float_some F64 = omega arith
 leaf_some : (l : Leaf) (s : Tree) (p : List ℕ) → leaf_reads l s → Spells s p → 0 < length p
 leaf_some leaves.Bool s p r q = one_some p _ (rw r.1 at q)
 leaf_some (leaves.Integer i) s p r q =
-    by_integer HasBytes (λ t u b l. one_some u _ (rw b.1 at l)) (λ w wide t u b l. num_some w _ u (rw b.1 at l)) (λ w wide t u b l. num_some w _ u (rw b.1 at l)) i s p r q
+    by_integer HasBytes (λ t u b l. one_some u _ (rw b.1 at l)) (λ w wide t u b l. num_some w _ u (rw b.1 at l)) (λ w wide t u b l. num_some w _ u
+    (rw b.1 at l)) i s p r q
 leaf_some (leaves.Float f) s p r q = array_some (float_size f) (float_some f) s p r q
 leaf_some leaves.Char s p r q = let k = rw r.1 at q in front_some p k.2.0 k.2.1 k.2.4 (num_some 64 _ k.2.0 k.2.2)
 leaf_some leaves.Str s p r q = let k = rw r.1 at q in front_some p k.0 k.1 k.4 (num_some 64 _ k.0 k.2)

@@ -35,7 +35,8 @@ cast_is w k same (pos n) = refl
 cast_is w k same (negsuc n) = ap (λ m. m - suc n) same
 
 -- A signed number of a width, where the type's numbers are these, by its bits.
-pub int_is : (i : Integer) (w : Width) (z : ℤ) (v : ℕ) (x : Tree) → 8 * size_of i ≡ bits w → 2 ^ bits w ≡ 256 ^ size_of i → 2 ^ (bits w - 1) ≡ 2 ^ hbits w
+pub int_is : (i : Integer) (w : Width) (z : ℤ) (v : ℕ) (x : Tree) → 8 * size_of i ≡ bits w → 2 ^ bits w ≡ 256 ^ size_of i
+    → 2 ^ (bits w - 1) ≡ 2 ^ hbits w
     → ((n : ℕ) → integer_tree i n ≡ Int (bits w) (signed_of (size_of i) (n % 256 ^ size_of i)))
     → v ≡ cast_unsigned w (cast_signed w (cast_unsigned w z)) → IsInt (bits w) x → x ≡ Int (bits w) z → IsInteger i x v
 int_is i w z v x width power half form is r h =

@@ -56,7 +56,8 @@ module _ {S : Type 0} {left : S → Left} {able : S → ℕ → Type 0} {may_lea
   -- ---- a count
 
   -- Reading a number of 64 bits reads a count.
-  pub as_count : {old new : S} {n : ℕ} → ReadsFrom Spells (IsNum 64) (λ t v. t ≡ Num 64 v) never left able may_leave old (Ok n) new → ReadsFrom (SpellsNum 64) (Below 64) Same never left able may_leave old (Ok n) new
+  pub as_count : {old new : S} {n : ℕ} → ReadsFrom Spells (IsNum 64) (λ t v. t ≡ Num 64 v) never left able may_leave old (Ok n) new
+      → ReadsFrom (SpellsNum 64) (Below 64) Same never left able may_leave old (Ok n) new
   as_count {n = n} r = let g = r.gives in record {
     gives = record { thing = g.is_read.0; front = g.front; is_read = g.is_read.2; is_spelled = rw g.is_read.1 at g.is_spelled; has = num_same 64 g.is_read.0 n (sym g.is_read.1 ∙ g.has); taken = g.taken };
     accepts = λ m p a b c. let k = r.accepts (Num 64 m) p (m, refl, a) b c in (num_same 64 m n k.0, k.1);
@@ -65,7 +66,9 @@ module _ {S : Type 0} {left : S → Left} {able : S → ℕ → Type 0} {may_lea
   }
 
   -- If reading a number of 64 bits fails, reading a count fails.
-  pub no_count : {W : Type 0} {I : Tree → W → Type 0} {old new : S} {e : Error} → ReadsFrom Spells (IsNum 64) I never left able may_leave old (refusal W e) new → ReadsFrom (SpellsNum 64) (Below 64) Same never left able may_leave old (refusal ℕ e) new
+  pub no_count : {W : Type 0} {I : Tree → W → Type 0} {old new : S} {e : Error}
+      → ReadsFrom Spells (IsNum 64) I never left able may_leave old (refusal W e) new
+      → ReadsFrom (SpellsNum 64) (Below 64) Same never left able may_leave old (refusal ℕ e) new
   no_count r = record {
     gives = tt;
     accepts = λ m p a b c. r.accepts (Num 64 m) p (m, refl, a) b c;
@@ -77,12 +80,14 @@ module _ {S : Type 0} {left : S → Left} {able : S → ℕ → Type 0} {may_lea
 
   -- Elements that are read into a vector are read as its list.
   pub as_list : {P : Trees → Type 0} {old new : S} {v : Vec Value Global} →
-      ReadsFrom SpellsAll P AreTrees memory left able may_leave old (Ok v) new → ReadsFrom SpellsAll P (EachIs IsTree) memory left able may_leave old (Ok v.items) new
+      ReadsFrom SpellsAll P AreTrees memory left able may_leave old (Ok v) new
+      → ReadsFrom SpellsAll P (EachIs IsTree) memory left able may_leave old (Ok v.items) new
   as_list r = recast (λ x h. h) r
 
   -- If elements are refused for a vector, they are refused as a list.
   pub no_list : {P : Trees → Type 0} {old new : S} {e : Error} →
-      ReadsFrom SpellsAll P AreTrees memory left able may_leave old (refusal (Vec Value Global) e) new → ReadsFrom SpellsAll P (EachIs IsTree) memory left able may_leave old (refusal (List Value) e) new
+      ReadsFrom SpellsAll P AreTrees memory left able may_leave old (refusal (Vec Value Global) e) new
+      → ReadsFrom SpellsAll P (EachIs IsTree) memory left able may_leave old (refusal (List Value) e) new
   no_list r = refused_too (λ x a. a) (λ x h. h) r
 
   -- If memory runs out, reading fails with the error that `?` passes on.
@@ -93,7 +98,8 @@ module _ {S : Type 0} {left : S → Left} {able : S → ℕ → Type 0} {may_lea
   -- ---- the first byte of an option
 
   -- If a byte was read and is 1, the byte 1 was taken.
-  pub one_taken : {old mid : S} {b : ℕ} → ReadsFrom Spells IsByte (λ t v. t ≡ Byte v) never left able may_leave old (Ok b) mid → b ≡ 1 → Takes left able old (1 ∷ []) mid
+  pub one_taken : {old mid : S} {b : ℕ} → ReadsFrom Spells IsByte (λ t v. t ≡ Byte v) never left able may_leave old (Ok b) mid → b ≡ 1
+      → Takes left able old (1 ∷ []) mid
   one_taken {old = old} {mid = mid} {b = b} r e =
       let g = r.gives in
       let s : Spells (Byte b) g.front = rw g.has at g.is_spelled in
@@ -101,7 +107,8 @@ module _ {S : Type 0} {left : S → Left} {able : S → ℕ → Type 0} {may_lea
 
 module _ {S : Type 0} {left : S → Left} {able : S → ℕ → Type 0} {may_leave : S → S → Type 0} (laws : Laws left able may_leave) {old new : S} where
   -- If no byte can be read, no option can.
-  pub no_option : {R : Tree → Type 0} {e : Error} → ReadsFrom Spells IsByte (λ t v. t ≡ Byte v) never left able may_leave old (refusal ℕ e) new → ReadsFrom Spells (IsOption R) IsTree memory left able may_leave old (refusal Value e) new
+  pub no_option : {R : Tree → Type 0} {e : Error} → ReadsFrom Spells IsByte (λ t v. t ≡ Byte v) never left able may_leave old (refusal ℕ e) new
+      → ReadsFrom Spells (IsOption R) IsTree memory left able may_leave old (refusal Value e) new
   no_option {R = R} {e = e} r = record {
     gives = tt;
     accepts = accepts;

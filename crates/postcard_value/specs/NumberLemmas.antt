@@ -61,7 +61,8 @@ bytes_of_trees [] = refl
 bytes_of_trees (b ∷ bs) = ap (λ cs. b ∷ cs) (bytes_of_trees bs)
 
 -- A number is the value of its bytes.
-pub value_of_bytes : (order : ByteOrder) (k n : ℕ) → n < 256 ^ k → (order_of order).value (bytes_of (trees (map Byte ((order_of order).spell k n)))) ≡ n
+pub value_of_bytes : (order : ByteOrder) (k n : ℕ) → n < 256 ^ k
+    → (order_of order).value (bytes_of (trees (map Byte ((order_of order).spell k n)))) ≡ n
 value_of_bytes order k n below = let o = order_of order in ap o.value (bytes_of_trees (o.spell k n)) ∙ o.worth k n below
 
 pub fits_128 : (i : Integer) (z : ℤ) (n : ℕ) → IsBitsOf i z n → FitsSigned w128 z

@@ -27,7 +27,8 @@ by_integer P byte num int I128 = int 128 (inr (inr (inr refl)))
 
 leaf_delimited : (l : Leaf) → IsDelimited (leaf_reads l)
 leaf_delimited leaves.Bool = delimited.boolean_delimited
-leaf_delimited (leaves.Integer i) = by_integer IsDelimited delimited.byte_delimited (λ w wide. delimited.num_delimited w) (λ w wide. delimited.int_delimited w) i
+leaf_delimited (leaves.Integer i) = by_integer IsDelimited delimited.byte_delimited (λ w wide. delimited.num_delimited w)
+    (λ w wide. delimited.int_delimited w) i
 leaf_delimited (leaves.Float f) = delimited.array_delimited (float_size f) _ delimited.byte_delimited
 leaf_delimited leaves.Char = delimited.char_delimited
 leaf_delimited leaves.Str = delimited.text_delimited

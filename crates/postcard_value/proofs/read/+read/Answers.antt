@@ -31,7 +31,8 @@ read_part-returns-in_err-item g t c =
 pub read_part-returns-in_err-push : goal.read_part-returns-in_err-push
 read_part-returns-in_err-push g t c =
     let back = c.from_residual-in_err-push in
-    rw (is_refusal back.result c.in_err-push.field-0.0 back.ensures.1, c.in_err-push.ensures.only_out_of_memory) (out_of_memory c.in_ok-item.ensures.leaves tt)
+    rw (is_refusal back.result c.in_err-push.field-0.0 back.ensures.1, c.in_err-push.ensures.only_out_of_memory)
+    (out_of_memory c.in_ok-item.ensures.leaves tt)
 
 pub read_part-returns : goal.read_part-returns
 read_part-returns g t c = (c.in_ok-item.item, c.in_ok-push.ensures.added, c.in_ok-item.ensures)
@@ -58,7 +59,8 @@ pub read_option-returns-in_ok-held-in-1 : goal.read_option-returns-in_ok-held-in
 read_option-returns-in_ok-held-in-1 g t c =
     let r = c.in_ok-deserialize_u8.ensures.reads in
     let held = c.in_ok-held-in-1.held in
-    let seen : tree (Present held) ≡ nodes.Present (tree c.in_ok-value-in-1.value) = rw (← c.in_ok-held-in-1.ensures.held) (search (rules, the_lemmas)) in
+    let seen : tree (Present held) ≡ nodes.Present (tree c.in_ok-value-in-1.value) = rw (← c.in_ok-held-in-1.ensures.held) (search
+    (rules, the_lemmas)) in
     recast (λ x h. h.1 ∙ ap nodes.Present h.2 ∙ sym seen) (some_read g.F.Flavor.lawful (one_taken r c.in-1.is) r.leaves c.in_ok-value-in-1.ensures)
 
 -- ---- lists, arrays and maps
@@ -99,7 +101,8 @@ pub read_elements-returns-in_err-read_part : goal.read_elements-returns-in_err-r
 read_elements-returns-in_err-read_part g t c =
     let more : c.args.count - c.loop.counter ≡ suc (c.args.count - (c.loop.counter + 1)) = omega arith in
     passed_on (λ x a. a) (λ e h. h) c.from_residual.ensures.1
-    (row_stops g.F.Flavor.lawful (one_and_rest (reads (type_of c.args.element.now)) IsTree _) (rw more at c.loop.invariant) c.in_err-read_part.ensures)
+    (row_stops g.F.Flavor.lawful (one_and_rest (reads (type_of c.args.element.now)) IsTree _)
+    (rw more at c.loop.invariant) c.in_err-read_part.ensures)
 
 pub read_elements-loop-preserved : goal.read_elements-loop-preserved
 read_elements-loop-preserved g t c =
@@ -140,7 +143,8 @@ read_value-returns-in_err-read_part-in-Map-2 g t c =
     rw (c.in-Map.is, type_of_map k v) (passed_on (λ x a. a) (λ e h. h) c.from_residual-in_err-read_part-in-Map-2.ensures.1
     (list_refused laws (λ (vs : List Value). vs) (as_count c.in_ok-count-in-Map.ensures.reads)
     (row_stops laws (one_and_rest (reads (entry_of (type_of k.value) (type_of v.value))) IsTree _) (rw more at c.loop.invariant)
-    (value_stops laws (type_of k.value) (type_of v.value) c.new-pair.ensures.items (rw c.deref-in-loop.ensures at c.in_ok-read_part-in-Map.ensures) (rw c.deref-in-loop-2.ensures at c.in_err-read_part-in-Map-2.ensures)))))
+    (value_stops laws (type_of k.value) (type_of v.value) c.new-pair.ensures.items (rw c.deref-in-loop.ensures at c.in_ok-read_part-in-Map.ensures)
+    (rw c.deref-in-loop-2.ensures at c.in_err-read_part-in-Map-2.ensures)))))
 
 pub read_value-returns-in_err-push-in-Map : goal.read_value-returns-in_err-push-in-Map
 read_value-returns-in_err-push-in-Map g t c =
@@ -149,7 +153,8 @@ read_value-returns-in_err-push-in-Map g t c =
     let v = c.in-Map.value in
     let n = c.in_ok-count-in-Map.count in
     let more : n - c.loop.counter ≡ suc (n - (c.loop.counter + 1)) = omega arith in
-    rw (c.in-Map.is, type_of_map k v) (passed_on (λ x a. a) (λ e h. h) (rw c.in_err-push-in-Map.ensures.only_out_of_memory at c.from_residual-in_err-push-in-Map.ensures.1)
+    rw (c.in-Map.is, type_of_map k v) (passed_on (λ x a. a) (λ e h. h)
+    (rw c.in_err-push-in-Map.ensures.only_out_of_memory at c.from_residual-in_err-push-in-Map.ensures.1)
     (list_refused laws (λ (vs : List Value). vs) (as_count c.in_ok-count-in-Map.ensures.reads)
     (row_stops laws (one_and_rest (reads (entry_of (type_of k.value) (type_of v.value))) IsTree _) (rw more at c.loop.invariant)
     (out_of_memory (laws.joins _ _ _ c.in_ok-read_part-in-Map.ensures.2.leaves c.in_ok-read_part-in-Map-2.ensures.2.leaves) tt))))
@@ -166,7 +171,8 @@ read_value-loop-preserved g t c =
     row_goes_on laws (one_and_rest (reads (entry_of (type_of k.value) (type_of v.value))) IsTree _) (rw more at c.loop.invariant) (
       Group pair,
       c.in_ok-push-in-Map.ensures.added,
-      entry_read laws (type_of k.value) (type_of v.value) c.new-pair.ensures.items (rw c.deref-in-loop.ensures at c.in_ok-read_part-in-Map.ensures) (Group pair) seen
+      entry_read laws (type_of k.value) (type_of v.value) c.new-pair.ensures.items (rw c.deref-in-loop.ensures at c.in_ok-read_part-in-Map.ensures)
+          (Group pair) seen
           (rw c.deref-in-loop-2.ensures at c.in_ok-read_part-in-Map-2.ensures),
     )
 
@@ -178,7 +184,8 @@ read_value-returns-after-loop g t c =
     let seen : tree (Seq v) ≡ nodes.Seq (trees (map tree v.items)) = search (rules, the_lemmas) in
     rw (c.in-Map.is, type_of_map c.in-Map.key c.in-Map.value)
     (recast (λ x h. list_tree tree x v.items h ∙ sym seen)
-    (list_read laws (λ (vs : List Value). vs) v.items (as_count c.in_ok-count-in-Map.ensures.reads) (row_ends laws (elements_over _) (rw none at c.loop.invariant))))
+    (list_read laws (λ (vs : List Value). vs) v.items (as_count c.in_ok-count-in-Map.ensures.reads) (row_ends laws (elements_over _)
+    (rw none at c.loop.invariant))))
 
 -- ---- tuples and structs
 
@@ -213,14 +220,16 @@ read_struct-returns-in_err-read_part g t c =
     let xs = c.deref-field-items.result.now in
     let here = field_next xs l.field-index c.field-item.result (omega arith) c.field-item.is in
     rw (is_refusal c.from_residual.result c.in_err-read_part.field-0.0 c.from_residual.ensures.1, ← c.deref-field-items.ensures.value)
-    (group_refused (row_stops laws (part_and_rest (reads (type_of c.field-item.result.content)) IsTree _) (rw here at l.invariant) c.in_err-read_part.ensures))
+    (group_refused (row_stops laws (part_and_rest (reads (type_of c.field-item.result.content)) IsTree _)
+    (rw here at l.invariant) c.in_err-read_part.ensures))
 
 pub read_struct-loop-field-preserved : goal.read_struct-loop-field-preserved
 read_struct-loop-field-preserved g t c =
     let l = c.loop-field in
     let xs = c.deref-field-items.result.now in
     let here = field_next xs l.field-index c.field-item.result (omega arith) c.field-item.is in
-    row_goes_on g.F.Flavor.lawful (part_and_rest (reads (type_of c.field-item.result.content)) IsTree _) (rw here at l.invariant) c.in_ok-read_part.ensures
+    row_goes_on g.F.Flavor.lawful (part_and_rest (reads (type_of c.field-item.result.content)) IsTree _)
+    (rw here at l.invariant) c.in_ok-read_part.ensures
 
 pub read_struct-returns : goal.read_struct-returns
 read_struct-returns g t c =
@@ -268,7 +277,8 @@ read_variant-returns g t c =
     let low : i < length xs = grind (arith, common_steps) in
     let here : reads_at (types_of (contents xs)) i ≡ reads (type_of s.content) = content_at xs i s low c.in-Some.ensures.lookup.1 in
     let held = c.in_ok-held.held in
-    let seen : tree (Variant i held) ≡ nodes.Variant i (tree c.in_ok-content.content) = rw (← c.in_ok-held.ensures.held) (search (rules, the_lemmas)) in
+    let seen : tree (Variant i held) ≡ nodes.Variant i (tree c.in_ok-content.content) = rw (← c.in_ok-held.ensures.held) (search
+    (rules, the_lemmas)) in
     rw (← c.deref.ensures.value)
     (variant_read g.F.Flavor.lawful (λ x h. ap (nodes.Variant i) h ∙ sym seen) c.in_ok-index.ensures.reads
     (rw (← here) at c.in_ok-content.ensures))

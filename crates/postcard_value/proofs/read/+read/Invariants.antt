@@ -8,11 +8,13 @@ use Rattle.postcard_value.proofs.read.+read.Given as goal
 
 abbrev pub invariant-read_elements-loop : goal.invariant-read_elements-loop
 invariant-read_elements-loop g l = let f = g.F.Flavor in let each = reads (type_of l.element) in
-    GoingRow f.left f.able f.may_leave (source_of l.initial.d) (AreRead l.count each) l.items.items (source_of l.d) (AreRead (l.count - l.counter) each)
+    GoingRow f.left f.able f.may_leave (source_of l.initial.d) (AreRead l.count each) l.items.items (source_of l.d) (AreRead
+    (l.count - l.counter) each)
 
 abbrev pub invariant-read_value-loop : goal.invariant-read_value-loop
 invariant-read_value-loop g l = let f = g.F.Flavor in let each = reads (entry_of (type_of l.key.value) (type_of l.value.value)) in
-    GoingRow f.left f.able f.may_leave (source_of l.initial.d) (AreRead l.count each) l.items.items (source_of l.d) (AreRead (l.count - l.counter) each)
+    GoingRow f.left f.able f.may_leave (source_of l.initial.d) (AreRead l.count each) l.items.items (source_of l.d) (AreRead
+    (l.count - l.counter) each)
 
 abbrev pub invariant-read_tuple-loop-part : goal.invariant-read_tuple-loop-part
 invariant-read_tuple-loop-part g l = let f = g.F.Flavor in

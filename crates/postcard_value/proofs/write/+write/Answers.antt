@@ -32,21 +32,24 @@ pub write_value-returns-in_err-serialize_u8-in-Present : goal.write_value-return
 write_value-returns-in_err-serialize_u8-in-Present g t c =
     let b = c.in-Present.content in
     let seen : tree (Present b) ≡ nodes.Present (tree b.value) = search (rules, the_lemmas) in
-    rw (c.in-Present.is, seen) (wrote_err _ c.from_residual.ensures.1 (wrote_stop (1 ∷ []) (canonical (tree b.value)) c.in_err-serialize_u8-in-Present.ensures (λ e. absurd) absurd))
+    rw (c.in-Present.is, seen) (wrote_err _ c.from_residual.ensures.1 (wrote_stop (1 ∷ []) (canonical
+    (tree b.value)) c.in_err-serialize_u8-in-Present.ensures (λ e. absurd) absurd))
 
 pub write_value-returns-in_ok-serialize_u8-in-Present : goal.write_value-returns-in_ok-serialize_u8-in-Present
 write_value-returns-in_ok-serialize_u8-in-Present g t c =
     let b = c.in-Present.content in
     let seen : tree (Present b) ≡ nodes.Present (tree b.value) = search (rules, the_lemmas) in
     let d : c.deref-in-Present.result.now ≡ b.value = grind (arith, common_steps) in
-    rw (c.in-Present.is, seen) (wrote_then (1 ∷ []) (canonical (tree b.value)) c.in_ok-serialize_u8-in-Present.ensures (rw d at c.write_value.ensures) (λ e q. q) (λ t. t))
+    rw (c.in-Present.is, seen) (wrote_then (1 ∷ []) (canonical (tree b.value)) c.in_ok-serialize_u8-in-Present.ensures
+    (rw d at c.write_value.ensures) (λ e q. q) (λ t. t))
 
 pub write_value-returns-in_err-serialize_tuple_variant-in-Variant : goal.write_value-returns-in_err-serialize_tuple_variant-in-Variant
 write_value-returns-in_err-serialize_tuple_variant-in-Variant g t c =
     let i = c.in-Variant.index in
     let b = c.in-Variant.content in
     let seen : tree (Variant i b) ≡ nodes.Variant i (tree b.value) = search (rules, the_lemmas) in
-    rw (c.in-Variant.is, seen) (wrote_err _ c.from_residual-in_err-serialize_tuple_variant-in-Variant.ensures.1 (wrote_stop (digits i) (canonical (tree b.value)) c.in_err-serialize_tuple_variant-in-Variant.ensures (λ e. absurd) absurd))
+    rw (c.in-Variant.is, seen) (wrote_err _ c.from_residual-in_err-serialize_tuple_variant-in-Variant.ensures.1 (wrote_stop (digits i) (canonical
+    (tree b.value)) c.in_err-serialize_tuple_variant-in-Variant.ensures (λ e. absurd) absurd))
 
 pub write_value-returns-in_ok-serialize_tuple_variant-in-Variant : goal.write_value-returns-in_ok-serialize_tuple_variant-in-Variant
 write_value-returns-in_ok-serialize_tuple_variant-in-Variant g t c =
@@ -54,18 +57,21 @@ write_value-returns-in_ok-serialize_tuple_variant-in-Variant g t c =
     let b = c.in-Variant.content in
     let seen : tree (Variant i b) ≡ nodes.Variant i (tree b.value) = search (rules, the_lemmas) in
     let d : c.deref-in-Variant.result.now ≡ b.value = grind (arith, common_steps) in
-    rw (c.in-Variant.is, seen) (wrote_then (digits i) (canonical (tree b.value)) c.in_ok-serialize_tuple_variant-in-Variant.ensures (rw d at c.write_value-in-Variant.ensures) (λ e q. q) (λ t. t))
+    rw (c.in-Variant.is, seen) (wrote_then (digits i) (canonical (tree b.value)) c.in_ok-serialize_tuple_variant-in-Variant.ensures
+    (rw d at c.write_value-in-Variant.ensures) (λ e q. q) (λ t. t))
 
 pub write_value-returns-in_err-serialize_seq-in-Seq : goal.write_value-returns-in_err-serialize_seq-in-Seq
 write_value-returns-in_err-serialize_seq-in-Seq g t c =
     let v = c.in-Seq.items in
     let seen : tree (Seq v) ≡ nodes.Seq (trees (map tree v.items)) = search (rules, the_lemmas) in
     let n : vec_len v ≡ length v.items = grind (arith, common_steps) in
-    rw (c.in-Seq.is, seen) (wrote_err _ c.from_residual-in_err-serialize_seq-in-Seq.ensures.1 (rw (elements_count tree v.items, ← n) (wrote_stop _ _ (rw c.len.ensures at c.in_err-serialize_seq-in-Seq.ensures.known) (λ e. absurd) absurd)))
+    rw (c.in-Seq.is, seen) (wrote_err _ c.from_residual-in_err-serialize_seq-in-Seq.ensures.1 (rw (elements_count tree v.items, ← n)
+    (wrote_stop _ _ (rw c.len.ensures at c.in_err-serialize_seq-in-Seq.ensures.known) (λ e. absurd) absurd)))
 
 pub write_value-returns-in_ok-serialize_seq-in-Seq : goal.write_value-returns-in_ok-serialize_seq-in-Seq
 write_value-returns-in_ok-serialize_seq-in-Seq g t c =
     let v = c.in-Seq.items in
     let seen : tree (Seq v) ≡ nodes.Seq (trees (map tree v.items)) = search (rules, the_lemmas) in
     let n : vec_len v ≡ length v.items = grind (arith, common_steps) in
-    rw (c.in-Seq.is, seen) (rw (elements_count tree v.items, ← n) (wrote_then _ _ (rw c.len.ensures at c.in_ok-serialize_seq-in-Seq.ensures.known) c.write_all.ensures (λ e q. q) (λ t. t)))
+    rw (c.in-Seq.is, seen) (rw (elements_count tree v.items, ← n) (wrote_then _ _
+    (rw c.len.ensures at c.in_ok-serialize_seq-in-Seq.ensures.known) c.write_all.ensures (λ e q. q) (λ t. t)))

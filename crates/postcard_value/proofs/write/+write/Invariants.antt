@@ -8,4 +8,5 @@ use Rattle.postcard_value.specs.Tree.{tree}
 use Rattle.postcard_value.proofs.write.+write.Given as goal
 
 abbrev pub invariant-write_all-loop-item : goal.invariant-write_all-loop-item
-invariant-write_all-loop-item g l = Wrote g.F.Flavor l.initial.serializer.output (canonical_all (trees (map tree (take l.item-index l.item-items)))) never ⊥ (Ok tt) l.serializer.output
+invariant-write_all-loop-item g l = Wrote g.F.Flavor l.initial.serializer.output (canonical_all (trees (map tree
+    (take l.item-index l.item-items)))) never ⊥ (Ok tt) l.serializer.output
