@@ -267,9 +267,22 @@ static void checksums(void) {
     CHECK(postcard_put_crc16(&w) == POSTCARD_BUFFER_FULL && w.used == 99);
 }
 
+/* The frame of a message has room in so many bytes, and in no fewer. */
+static void needs(const void *message, size_t size, size_t wanted) {
+    size_t count = 0;
+    for (size_t fewer = 0; fewer < wanted; fewer++)
+        CHECK(postcard_cobs_encode(message, size, room, fewer, &count) == POSTCARD_BUFFER_FULL);
+    CHECK(postcard_cobs_encode(message, size, room, wanted, &count) == 0 && count == wanted);
+}
+
 static void frames(void) {
+    static uint8_t ones[300], zeros[20], mixed[40];
     uint8_t frame[64];
     size_t count = 0;
+    memset(ones, 1, sizeof ones), memset(mixed, 1, sizeof mixed);
+    mixed[0] = mixed[3] = mixed[20] = mixed[21] = mixed[39] = 0;
+    needs("", 0, 2), needs(ones, 4, 6), needs(zeros, 20, 22), needs(mixed, 40, 42);
+    needs(ones, 300, 303); /* two groups, of 254 bytes and of 46 */
     CHECK(postcard_cobs_encode("\x03Hi!", 4, frame, sizeof frame, &count) == 0);
     CHECK(count == 6 && memcmp(frame, "\x05\x03Hi!\x00", 6) == 0);
     CHECK(postcard_cobs_encode("\x03Hi!", 4, frame, 5, &count) == POSTCARD_BUFFER_FULL);

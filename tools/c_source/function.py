@@ -1,8 +1,7 @@
 """One function of the MIR as a function of C."""
 import re
-from collections import defaultdict
 
-from . import fold, operators, values
+from . import fold, operators, scopes, values
 from .expressions import Expressions, Place, called
 from .lanes import OfLanes
 from .mir import Unsupported, checked
@@ -133,20 +132,21 @@ class Function(Expressions, OfLanes, Statements):
         self.statement(live(self.body))
         if self.lines and self.lines[-1] == '    return;':
             self.lines.pop()
-        return '%s%s {\n%s}\n' % (self.comment(), self.declaration(), ''.join(x + '\n' for x in self.head() + self.lines))
+        pointed = {self.variable(local).text for local in self.fold.taken}
+        lines = scopes.Scopes(self.unread() + self.lines, self.variables(), pointed).text()
+        return '%s%s {\n%s}\n' % (self.comment(), self.declaration(), ''.join(x + '\n' for x in lines))
 
-    def head(self):
-        """Returns the declarations of the function's variables, and what is said of parameters that nothing reads."""
-        words, declared = set(re.findall(r'\w+', '\n'.join(self.lines))), defaultdict(list)
-        count = self.mir['params']
+    def variables(self):
+        """Returns the types in C of the variables that the lines name."""
+        words, count = set(re.findall(r'\w+', '\n'.join(self.lines))), self.mir['params']
         named = [(t, self.variable(i).text) for i, t in enumerate(self.types) if i == 0 or i > count]
         named += [(t, 't%d' % (i + 1)) for i, t in enumerate(self.temporaries)]
-        for t, name in named:
-            if name in words:
-                declared[self.layout.c(t)].append(name)
-        lines = ['    %s%s;' % (c if c.endswith('*') else c + ' ', (', *' if c.endswith('*') else ', ').join(names)) for c, names in declared.items()]
-        unread = [n for t, n in zip(self.types[1:], self.parameters) if n not in words and not self.layout.is_empty(t)]
-        return lines + ['    (void)%s;' % n for n in unread]
+        return {name: self.layout.c(t) for t, name in named if name in words}
+
+    def unread(self):
+        """Returns the lines that name parameters that nothing reads."""
+        words = set(re.findall(r'\w+', '\n'.join(self.lines)))
+        return ['    (void)%s;' % n for t, n in zip(self.types[1:], self.parameters) if n not in words and not self.layout.is_empty(t)]
 
     def comment(self):
         """Returns the function's path with its types, and what its source says of it."""

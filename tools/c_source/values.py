@@ -121,15 +121,21 @@ class Join:
         if source is None or source['steps'] or node.says[0]['steps']:
             return None
         x, y = node.says[0]['local'], source['local']
-        if min(x, y) <= self.function.mir['params'] or x == y or {x, y} & self.taken or self.function.types[x] != self.function.types[y]:
+        if min(x, y) <= self.function.mir['params'] or x == y or y in self.taken or self.function.types[x] != self.function.types[y]:
             return None
         before = inner[:i]
         while before and not count(before[:1], y, writes_it):
             before = before[1:]
+        if x in self.taken and not self.is_written_at_once(before, y):
+            return None
         alone = self.uses.reads[y] == 1 and 0 < self.uses.writes[y] == count(before, y, writes_it)
         between = count(before, x, writes_it) + count(before, x, reads_it)
         exits = any(each.kind == 'Exit' for node in before for each in each_node(node))
         return (x, y) if alone and not between and not exits else None
+
+    def is_written_at_once(self, before, y):
+        """Whether one statement writes `y` and ends with that, so that it can write what a pointer that it reads points to."""
+        return len(before) == 1 and written(before[0]) == y and self.function.types[y][0] not in ('array', 'lanes')
 
 
 def join(function):

@@ -1,0 +1,27 @@
+-- The views of structs and enums, and lists of names whose contents have the same types.
+use Rattle.std.proofs.Common.{◌≡◌, List, [], ◌∷◌, map, Vec, refl, sym, ap, ◌∙◌, rules}
+use Rattle.std.specs.declared.alloc.Global.{Global}
+use Rattle.std.proofs.lemmas.Simd.{map-map}
+use Rattle.postcard_schema.specs.Meaning.{contents, row_of, type_of, types_of}
+use Rattle.postcard_schema.specs.Views.{View, struct_view, enum_view, named, named_views, view}
+use Rattle.postcard_schema.specs.declared.schema.Named.{Named}
+use Rattle.postcard_schema.specs.declared.schema.Schema.{Schema, the_lemmas}
+use Rattle.postcard_schema.specs.declared.schema.Schema.TheShapes.{former-Schema-Struct-0-at-2}
+use Rattle.postcard_schema.specs.declared.schema.Schema.TheVariants as schemas
+
+seen : (ns : List (Named Schema)) → map (named (λ view. view)) (map (former-Schema-Struct-0-at-2.map Schema View view) ns) ≡ map (named view) ns
+seen ns = map-map (named (λ (v : View). v)) (former-Schema-Struct-0-at-2.map Schema View view) ns
+
+pub view_struct : (v : Vec (Named Schema) Global) → view (schemas.Struct v) ≡ struct_view (named_views v.items)
+view_struct v = search (rules, the_lemmas, seen)
+
+pub view_enum : (v : Vec (Named Schema) Global) → view (schemas.Enum v) ≡ enum_view (named_views v.items)
+view_enum v = search (rules, the_lemmas, seen)
+
+-- Lists whose elements have contents of the same types.
+each_type : (ns : List (Named Schema)) → map type_of (contents ns) ≡ map (λ n. type_of n.content) ns
+each_type [] = refl
+each_type (n ∷ ns) = ap (λ ts. type_of n.content ∷ ts) (each_type ns)
+
+pub same_types : (ms ns : List (Named Schema)) → map (λ n. type_of n.content) ms ≡ map (λ n. type_of n.content) ns → types_of (contents ms) ≡ types_of (contents ns)
+same_types ms ns same = ap row_of (each_type ms ∙ same ∙ sym (each_type ns))

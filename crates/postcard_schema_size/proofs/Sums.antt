@@ -1,0 +1,42 @@
+-- Sums and greater sizes in a row, taken from the left.
+use Rattle.std.proofs.Common.{◌≡◌, ℕ, ◌<◌, ◌≤◌, ◌^◌, refl, ap, ◌∙◌, arith}
+use Rattle.std.specs.Prelude.{Option, Some, None, IfSome, if◌then◌else◌}
+use Rattle.std.proofs.lemmas.Bool.{lt-ltb, le-ltb}
+use Rattle.std.proofs.lemmas.Bool.Decides.{nat_tests}
+use Rattle.postcard_max.specs.Sizes.{limited, sum_of, greater_of}
+
+-- A number of 64 bits is a size, and another is none.
+pub small : (n : ℕ) → n < 2 ^ 64 → limited n ≡ Some n
+small n h = ap (λ b. if b then Some n else None) (lt-ltb n (2 ^ 64) h)
+
+pub large : (n : ℕ) → 2 ^ 64 ≤ n → limited n ≡ None
+large n h = ap (λ b. if b then Some n else None) (le-ltb n (2 ^ 64) h)
+
+-- A size that is known is of 64 bits.
+abbrev pub IsSmall : Option ℕ → Type 0
+IsSmall size = IfSome size (λ n. n < 2 ^ 64)
+
+pub sum_small : (a b : Option ℕ) → IsSmall (sum_of a b)
+sum_small None b = tt
+sum_small (Some a) None = tt
+sum_small (Some a) (Some b) = grind (arith, nat_tests)
+
+-- Adding 0 changes no size.
+pub zero_first : (b : Option ℕ) → IsSmall b → sum_of (Some 0) b ≡ b
+zero_first None h = refl
+zero_first (Some b) h = ap limited (omega arith) ∙ small b h
+
+pub zero_last : (a : Option ℕ) → IsSmall a → sum_of a (Some 0) ≡ a
+zero_last None h = refl
+zero_last (Some a) h = ap limited (omega arith) ∙ small a h
+
+-- Sums may be taken from the left.
+pub sums : (a b c : Option ℕ) → sum_of (sum_of a b) c ≡ sum_of a (sum_of b c)
+sums a b c = grind (arith, nat_tests)
+
+-- The greater of sizes may be taken from the left, and none is less than 0.
+pub greaters : (a b c : Option ℕ) → greater_of (greater_of a b) c ≡ greater_of a (greater_of b c)
+greaters a b c = grind arith
+
+pub least_last : (a : Option ℕ) → greater_of a (Some 0) ≡ a
+least_last a = grind arith

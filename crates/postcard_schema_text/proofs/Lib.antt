@@ -1,0 +1,15 @@
+pub mod Literals
+pub mod Rows
+pub mod Takes
+pub mod Bounded
+pub mod Heads
+pub mod Left
+pub mod LeftOfList
+pub mod LeftOfFields
+pub mod LeftOfTuple
+pub mod LeftOfEnum
+pub mod LeftOfAngled
+pub mod AngledSchemas
+pub mod LeftOfType
+pub mod LeftOfReference
+pub mod Refusals

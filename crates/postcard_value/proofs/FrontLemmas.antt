@@ -1,0 +1,184 @@
+-- Lemmas on values that bytes encode, one after another, and on values that can't be read: if the whole can't, its next part can't.
+use Rattle.std.proofs.Common.{◌≡◌, inr, ℕ, zero, suc, ◌+◌, ◌<◌, ◌≤◌, ◌^◌, List, [], ◌∷◌, ◌++◌, length, get_or, take, refl, sym, ap, subst, ◌∙◌, arith, append_assoc, append-nil}
+use Rattle.std.specs.Prelude.{Vec, Box}
+use Rattle.std.specs.declared.alloc.Global.{Global}
+use Rattle.std.proofs.lemmas.List.{take_more}
+use Rattle.postcard_wire.specs.Number.{SpellsNum}
+use Rattle.postcard_wire.specs.Tree.{Tree, Trees, Num, Present, Seq, Group, Variant, NoTrees, Then, count}
+use Rattle.postcard_wire.specs.Spelling.{Spells, SpellsAll}
+use Rattle.postcard_wire.specs.Reading.{Each, IsNum}
+use Rattle.postcard_shape.specs.Leaves.{num_same}
+use Rattle.postcard_schema.specs.declared.schema.Named.{Named}
+use Rattle.postcard_schema.specs.declared.schema.Schema.{Schema}
+use Rattle.postcard_schema.specs.declared.schema.Schema.TheVariants as schemas
+use Rattle.postcard_schema.specs.Bounds.{depth, greatest_depth}
+use Rattle.postcard_schema.specs.Lemmas.{content_at, type_of_array, type_of_enum, type_of_map, type_of_option, type_of_seq, type_of_struct, type_of_tuple}
+use Rattle.postcard_schema.specs.Meaning.{MessageType, contents, entry_of, type_of, types_of, reads, reads_all, reads_at}
+use Rattle.postcard_value.specs.Fronts.{FrontSpells, HasNoFront, HasNoRow, SpellsEach, SpellsParts}
+
+-- ---- rows of trees
+
+abbrev join : Trees → Trees → Trees
+join NoTrees ss = ss
+join (Then t ts) ss = Then t (join ts ss)
+
+count_join : (ts ss : Trees) → count (join ts ss) ≡ count ts + count ss
+count_join NoTrees ss = omega arith
+count_join (Then t ts) ss = omega (arith, count_join ts ss)
+
+each_join : (R : Tree → Type 0) (ts ss : Trees) → Each R ts → Each R ss → Each R (join ts ss)
+each_join R NoTrees ss a b = b
+each_join R (Then t ts) ss a b = (a.0, each_join R ts ss a.1 b)
+
+all_join : (ts ss : Trees) (p q : List ℕ) → SpellsAll ts p → SpellsAll ss q → SpellsAll (join ts ss) (p ++ q)
+all_join NoTrees ss p q a b = rw a b
+all_join (Then t ts) ss p q (x, y, s, k, e) b = (x, y ++ q, s, all_join ts ss y q k b, ap (λ r. r ++ q) e ∙ append_assoc x y q)
+
+alone : (t : Tree) (p : List ℕ) → Spells t p → SpellsAll (Then t NoTrees) p
+alone t p s = (p, [], s, refl, sym (append-nil p))
+
+reads_join : (ss us : List Schema) (a b : Trees) → reads_all (types_of ss) a → reads_all (types_of us) b → reads_all (types_of (ss ++ us)) (join a b)
+reads_join [] us a b h k = rw h k
+reads_join (s ∷ ss) us a b (t, ts, e, r, h) k = rw e (t, join ts b, refl, r, reads_join ss us ts b h k)
+
+-- One value more in a row of values.
+pub each_more : (t : MessageType) (n : ℕ) (tree : Tree) (done front : List ℕ) → SpellsEach t n done → reads t tree → Spells tree front
+    → SpellsEach t (n + 1) (done ++ front)
+each_more t n tree done front a r s = (
+  join a.0 (Then tree NoTrees),
+  (
+    omega (arith, count_join a.0 (Then tree NoTrees), a.1.0),
+    each_join _ a.0 _ a.1.1
+        (r, tt),
+  ),
+  all_join a.0 _ _ _ a.2 (alone tree _ s),
+)
+
+-- The key and the value of an entry are the entry.
+pub entry_spelled : (k v : MessageType) (p q : List ℕ) → FrontSpells k p → FrontSpells v q → FrontSpells (entry_of k v) (p ++ q)
+entry_spelled k v p q (s, r, f) (t, u, h) = (
+  Group (Then s (Then t NoTrees)),
+  (Then s (Then t NoTrees), refl, (s, Then t NoTrees, refl, r, (t, NoTrees, refl, u, refl))),
+  (p, q, f, alone t q h, refl),
+)
+
+-- One part more of a tuple, and one field more of a struct.
+pub parts_more : (ss : List Schema) (x : Schema) (done front : List ℕ) → SpellsParts ss done → FrontSpells (type_of x) front
+    → SpellsParts (ss ++ x ∷ []) (done ++ front)
+parts_more ss x done front a b = (
+  join a.0 (Then b.0 NoTrees),
+  reads_join ss (x ∷ []) a.0 (Then b.0 NoTrees) a.1 (b.0, NoTrees, refl, b.1, refl),
+  all_join a.0 _ _ _ a.2
+      (alone b.0 _ b.2),
+)
+
+pub part_more : (xs : List Schema) (i : ℕ) (x : Schema) (done front : List ℕ) → i < length xs → x ≡ get_or xs i x → SpellsParts (take i xs) done
+    → FrontSpells (type_of x) front → SpellsParts (take (i + 1) xs) (done ++ front)
+part_more xs i x done front low found d f =
+    let more : take (i + 1) xs ≡ take i xs ++ x ∷ [] = take_more xs i x low ∙ ap (λ y. take i xs ++ y ∷ []) (sym found) in
+    rw more (parts_more (take i xs) x done front d f)
+
+contents_join : (ns ms : List (Named Schema)) → contents (ns ++ ms) ≡ contents ns ++ contents ms
+contents_join [] ms = refl
+contents_join (n ∷ ns) ms = ap (λ xs. n.content ∷ xs) (contents_join ns ms)
+
+pub field_more : (xs : List (Named Schema)) (i : ℕ) (x : Named Schema) (done front : List ℕ) → i < length xs → x ≡ get_or xs i x
+    → SpellsParts (contents (take i xs)) done
+    → FrontSpells (type_of x.content) front → SpellsParts (contents (take (i + 1) xs)) (done ++ front)
+field_more xs i x done front low found d f =
+    let more : take (i + 1) xs ≡ take i xs ++ x ∷ [] = take_more xs i x low ∙ ap (λ y. take i xs ++ y ∷ []) (sym found) in
+    rw (more, contents_join (take i xs) (x ∷ [])) (parts_more (contents (take i xs)) x.content done front d f)
+
+-- A number that is read is in its range, and spelled by the front.
+pub number_read : (w : ℕ) (tree : Tree) (v : ℕ) (front : List ℕ) → IsNum w tree → tree ≡ Num w v → Spells tree front
+    → (v < 2 ^ w) × SpellsNum w v front
+number_read w tree v front (n, is, low) e s = (rw (num_same w v n (sym e ∙ is)) low, rw e at s)
+
+-- ---- the next part of a value that can't be read
+
+pub option_none : (s : Schema) (content : Box Schema Global) (bytes rest : List ℕ) → s ≡ schemas.Option content → bytes ≡ 1 ∷ rest
+    → HasNoFront s bytes
+    → HasNoFront content.value rest
+option_none s content bytes rest is cut none = λ front after here f.
+    none (1 ∷ front) after (cut ∙ ap (λ x. 1 ∷ x) here) (rw (is, type_of_option content) (
+      Present f.0,
+      inr (f.0, refl, f.1),
+      (1 ∷ [], front, refl, f.2, refl),
+    ))
+
+pub list_none : (s : Schema) (element : Box Schema Global) (bytes count rest : List ℕ) (n : ℕ) → s ≡ schemas.Seq element → bytes ≡ count ++ rest
+    → n < 2 ^ 64 → SpellsNum 64 n count → HasNoFront s bytes → HasNoRow (type_of element.value) n rest
+list_none s element bytes count rest n is cut low num none front after here (ts, (size, each), f) =
+    none (count ++ front) after (cut ∙ ap (λ x. count ++ x) here ∙ sym (append_assoc count front after))
+    (rw (is, type_of_seq element) (Seq ts, (ts, refl, rw size low, each), (count, front, rw size num, f, refl)))
+
+pub map_none : (s : Schema) (k v : Box Schema Global) (bytes count rest : List ℕ) (n : ℕ) → s ≡ schemas.Map k v → bytes ≡ count ++ rest
+    → n < 2 ^ 64 → SpellsNum 64 n count → HasNoFront s bytes → HasNoRow (entry_of (type_of k.value) (type_of v.value)) n rest
+map_none s k v bytes count rest n is cut low num none front after here (ts, (size, each), f) =
+    none (count ++ front) after (cut ∙ ap (λ x. count ++ x) here ∙ sym (append_assoc count front after))
+    (rw (is, type_of_map k v) (Seq ts, (ts, refl, rw size low, each), (count, front, rw size num, f, refl)))
+
+pub array_none : (s : Schema) (element : Box Schema Global) (bytes : List ℕ) (n : ℕ) → s ≡ schemas.Array element n → HasNoFront s bytes
+    → HasNoRow (type_of element.value) n bytes
+array_none s element bytes n is none = λ front rest cut r.
+    none front rest cut (rw (is, type_of_array element n) (Group r.0, (r.0, refl, r.1.0, r.1.1), r.2))
+
+pub tuple_none : (s : Schema) (parts : Vec Schema Global) (bytes front rest : List ℕ) → s ≡ schemas.Tuple parts → bytes ≡ front ++ rest
+    → SpellsParts parts.items front
+    → HasNoFront s bytes → ⊥
+tuple_none s parts bytes front rest is cut (ts, r, f) none = none front rest cut (rw (is, type_of_tuple parts) (Group ts, (ts, refl, r), f))
+
+pub struct_none : (s : Schema) (fields : Vec (Named Schema) Global) (bytes front rest : List ℕ) → s ≡ schemas.Struct fields → bytes ≡ front ++ rest
+    → SpellsParts (contents fields.items) front → HasNoFront s bytes → ⊥
+struct_none s fields bytes front rest is cut (ts, r, f) none = none front rest cut (rw (is, type_of_struct fields) (Group ts, (ts, refl, r), f))
+
+pub variant_none : (s : Schema) (variants : Vec (Named Schema) Global) (bytes index rest : List ℕ) (i : ℕ) (x : Named Schema)
+    → s ≡ schemas.Enum variants
+    → i < length variants.items → x ≡ get_or variants.items i x → bytes ≡ index ++ rest → i < 2 ^ 32 → SpellsNum 32 i index → HasNoFront s bytes
+    → HasNoFront x.content rest
+variant_none s variants bytes index rest i x is low found cut few num none =
+    let at : reads_at (types_of (contents variants.items)) i ≡ reads (type_of x.content) = content_at variants.items i x low found in
+    λ front after here f.
+    none (index ++ front) after (cut ∙ ap (λ y. index ++ y) here ∙ sym (append_assoc index front after))
+    (rw (is, type_of_enum variants) (Variant i f.0, (i, f.0, refl, few, subst (λ P. P f.0) (sym at) f.1), (index, front, num, f.2, refl)))
+
+-- ---- depths
+
+greatest_at : (ss : List Schema) (i : ℕ) (x : Schema) → i < length ss → x ≡ get_or ss i x → depth (type_of x) ≤ greatest_depth (types_of ss)
+greatest_at [] i x low e = absurd (omega (arith, low))
+greatest_at (s ∷ ss) zero x low e = let same : depth (type_of x) ≡ depth (type_of s) = ap (λ y. depth (type_of y)) e in omega (arith, same)
+greatest_at (s ∷ ss) (suc i) x low e = omega (arith, greatest_at ss i x (omega (arith, low)) e)
+
+greatest_content : (ns : List (Named Schema)) (i : ℕ) (x : Named Schema) → i < length ns → x ≡ get_or ns i x
+    → depth (type_of x.content) ≤ greatest_depth (types_of (contents ns))
+greatest_content [] i x low e = absurd (omega (arith, low))
+greatest_content (n ∷ ns) zero x low e = let same : depth (type_of x.content) ≡ depth (type_of n.content) = ap (λ y. depth
+    (type_of y.content)) e in omega (arith, same)
+greatest_content (n ∷ ns) (suc i) x low e = omega (arith, greatest_content ns i x (omega (arith, low)) e)
+
+pub part_depth : (s : Schema) (parts : Vec Schema Global) (i : ℕ) (x : Schema) → s ≡ schemas.Tuple parts → i < length parts.items
+    → x ≡ get_or parts.items i x
+    → depth (type_of x) < depth (type_of s)
+part_depth s parts i x is low found = rw (is, type_of_tuple parts) (omega (arith, greatest_at parts.items i x low found))
+
+pub field_depth : (s : Schema) (fields : Vec (Named Schema) Global) (i : ℕ) (x : Named Schema) → s ≡ schemas.Struct fields → i < length fields.items
+    → x ≡ get_or fields.items i x → depth (type_of x.content) < depth (type_of s)
+field_depth s fields i x is low found = rw (is, type_of_struct fields) (omega (arith, greatest_content fields.items i x low found))
+
+pub variant_depth : (s : Schema) (variants : Vec (Named Schema) Global) (i : ℕ) (x : Named Schema) → s ≡ schemas.Enum variants
+    → i < length variants.items
+    → x ≡ get_or variants.items i x → depth (type_of x.content) < depth (type_of s)
+variant_depth s variants i x is low found = rw (is, type_of_enum variants) (omega (arith, greatest_content variants.items i x low found))
+
+pub option_depth : (s : Schema) (b : Box Schema Global) → s ≡ schemas.Option b → depth (type_of b.value) < depth (type_of s)
+option_depth s b is = rw (is, type_of_option b) (omega arith)
+
+pub list_depth : (s : Schema) (b : Box Schema Global) → s ≡ schemas.Seq b → depth (type_of b.value) < depth (type_of s)
+list_depth s b is = rw (is, type_of_seq b) (omega arith)
+
+pub array_depth : (s : Schema) (b : Box Schema Global) (n : ℕ) → s ≡ schemas.Array b n → depth (type_of b.value) < depth (type_of s)
+array_depth s b n is = rw (is, type_of_array b n) (omega arith)
+
+pub entry_depth : (s : Schema) (k v : Box Schema Global) → s ≡ schemas.Map k v
+    → (depth (type_of k.value) < depth (type_of s)) × (depth (type_of v.value) < depth (type_of s))
+entry_depth s k v is = rw (is, type_of_map k v) (omega arith, omega arith)

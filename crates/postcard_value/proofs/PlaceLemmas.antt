@@ -1,0 +1,91 @@
+-- Lemmas on the part in which reading a value stops, by that of what is in a row in it.
+use Rattle.std.proofs.Common.{◌≡◌, ℕ, ◌+◌, ◌<◌, ◌^◌, inl, inr, List, [], ◌∷◌, ◌++◌, length, Option, None, Some, sym, ap, ◌∙◌, arith, append_assoc, append-nil, length-append}
+use Rattle.std.specs.Prelude.{Box}
+use Rattle.std.specs.Borrow.{Bor}
+use Rattle.std.specs.declared.alloc.Global.{Global}
+use Rattle.postcard_wire.specs.Number.{SpellsNum}
+use Rattle.postcard_schema.specs.declared.path.Step.{Step}
+use Rattle.postcard_schema.specs.declared.path.Step.TheVariants.{Part, Element}
+use Rattle.postcard_schema.specs.declared.schema.Schema.{Schema}
+use Rattle.postcard_schema.specs.declared.schema.Schema.TheVariants as schemas
+use Rattle.postcard_value.specs.Fronts.{HasNoFront}
+use Rattle.postcard_value.specs.Refused.{Entered, StopsAt, StopsHere, here, inside, Finds, FindsElement, FindsEntry, in_list, in_array, in_key, in_value}
+use Rattle.postcard_value.proofs.FrontLemmas.{list_none, map_none, array_none, list_depth, array_depth, entry_depth}
+
+pub list_finds : (s : Schema) (element : Box Schema Global) (bytes count rest : List ℕ) (n : ℕ) → s ≡ schemas.Seq element → bytes ≡ count ++ rest
+    → n < 2 ^ 64
+    → SpellsNum 64 n count → (old new : List Step) (found : Option (Bor Schema × Bor (List ℕ))) → FindsElement element.value n rest old new found
+    → Finds s bytes old new found
+list_finds s element bytes count rest n is cut few num old new None (row, same) =
+    (λ none. absurd (row (list_none s element bytes count rest n is cut few num none)), same)
+list_finds s element bytes count rest n is cut few num old new (Some part) (i, front, low, each, more, join, lack, own) =
+    rw own (
+      (
+        count ++ front,
+        Element i ∷ [],
+        in_list s element n i count front is few num low each,
+        more,
+        cut ∙ ap (λ q. count ++ q) join ∙ sym (append_assoc count front part.1.now),
+        λ none. rw own at lack,
+      ),
+      list_depth s element is,
+    )
+
+pub array_finds : (s : Schema) (element : Box Schema Global) (bytes : List ℕ) (n : ℕ) → s ≡ schemas.Array element n → (old new : List Step)
+    (found : Option (Bor Schema × Bor (List ℕ))) → FindsElement element.value n bytes old new found → Finds s bytes old new found
+array_finds s element bytes n is old new None (row, same) = (λ none. absurd (row (array_none s element bytes n is none)), same)
+array_finds s element bytes n is old new (Some part) (i, front, low, each, more, join, lack, own) =
+    rw own ((front, Element i ∷ [], in_array s element n i front is low each, more, join, λ none. rw own at lack), array_depth s element n is)
+
+pub map_finds : (s : Schema) (k v : Box Schema Global) (bytes count rest : List ℕ) (n : ℕ) → s ≡ schemas.Map k v → bytes ≡ count ++ rest → n < 2 ^ 64
+    → SpellsNum 64 n count → (old new : List Step) (found : Option (Bor Schema × Bor (List ℕ))) → FindsEntry k.value v.value n rest old new found
+    → Finds s bytes old new found
+map_finds s k v bytes count rest n is cut few num old new None (row, same) =
+    (λ none. absurd (row (map_none s k v bytes count rest n is cut few num none)), same)
+map_finds s k v bytes count rest n is cut few num old new (Some part) (i, front, low, each, lack, inl (more, join, own)) =
+    rw own (
+      (
+        count ++ front,
+        Element i ∷ Part 0 ∷ [],
+        in_key s k v n i count front is few num low each,
+        more,
+        cut ∙ ap (λ q. count ++ q) join ∙ sym (append_assoc count front part.1.now),
+        λ none. rw own at lack,
+      ),
+      (entry_depth s k v is).0,
+    )
+map_finds s k v bytes count rest n is cut few num old new (Some part) (i, front, low, each, lack, inr (key, spelled, more, join, own)) =
+    rw own (
+      (
+        count ++ (front ++ key),
+        Element i ∷ Part 1 ∷ [],
+        in_value s k v n i count front key is few num low each spelled,
+        more,
+        cut ∙ ap (λ q. count ++ q) join ∙ sym (append_assoc count (front ++ key) part.1.now),
+        λ none. rw own at lack,
+      ),
+      (entry_depth s k v is).1,
+    )
+
+-- What was found, where it is known which of both it is.
+pub some_found : (s : Schema) (bytes : List ℕ) (old new : List Step) (found : Option (Bor Schema × Bor (List ℕ))) (part : Bor Schema × Bor (List ℕ))
+    → found ≡ Some part → Finds s bytes old new found → Entered s bytes old new part.0.now part.1.now
+some_found s bytes old new found part is h = (rw is at h).0
+
+pub none_found : (s : Schema) (bytes : List ℕ) (old new : List Step) (found : Option (Bor Schema × Bor (List ℕ))) → found ≡ None
+    → Finds s bytes old new found
+    → (HasNoFront s bytes → StopsHere s bytes) × (new ≡ old)
+none_found s bytes old new found is h = rw is at h
+
+-- If reading the whole stops where reading the part x does, it stops where reading a part of x does, and at the first node of x.
+module _ (s x : Schema) (bytes done rest : List ℕ) (now new : List Step)
+    (so : (path : List Step) (offset : ℕ) → StopsAt x rest path offset → StopsAt s bytes (now ++ path) (length done + offset)) where
+  pub stops_inside : (y : Schema) (after : List ℕ) (d : Entered x rest now new y after) (path : List Step) (offset : ℕ) → StopsAt y after path offset
+      → StopsAt s bytes (new ++ path) (length (done ++ d.0) + offset)
+  stops_inside y after (front, steps, enters, more, join, lack) path offset stops =
+      let total : length (done ++ front) + offset ≡ length done + (length front + offset) = omega (arith, length-append done front) in
+      rw (more, append_assoc now steps path, total) (so (steps ++ path) (length front + offset)
+      (inside x y rest front after steps path offset enters join stops))
+
+  pub stops_here : (offset : ℕ) → StopsHere x rest → new ≡ now → offset ≡ length done + 0 → StopsAt s bytes new offset
+  stops_here offset h same size = rw (same, size) (rw append-nil at (so [] 0 (here x rest h)))
