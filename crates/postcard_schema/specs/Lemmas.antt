@@ -1,5 +1,5 @@
 -- Lemmas for proofs of programs that read or build values of a schema.
-use Rattle.std.proofs.Common.{◌≡◌, ℕ, zero, suc, ◌<◌, List, [], ◌∷◌, map, get_or, length, refl, sym, ap, arith, rules, Box, Vec}
+use Rattle.std.proofs.Common.{◌≡◌, ℕ, zero, suc, ◌<◌, List, [], ◌∷◌, ◌++◌, map, get_or, length, refl, sym, ap, arith, rules, Box, Vec}
 use Rattle.std.specs.declared.alloc.Global.{Global}
 use Rattle.postcard_wire.specs.Tree.{Tree}
 use Rattle.postcard_schema.specs.declared.leaf.Integer.{Integer}
@@ -70,6 +70,11 @@ pub no_content_at : (ns : List (Named Schema)) (i : ℕ) (t : Tree) → (i < len
 no_content_at [] i t high r = r
 no_content_at (x ∷ xs) zero t high r = high (omega arith)
 no_content_at (x ∷ xs) (suc i) t high r = no_content_at xs i t (λ low. high (omega (arith, low))) r
+
+-- The contents of one list and then another are those of the first and then those of the second.
+pub contents_append : {A : Type 0} (ns ms : List (Named A)) → contents (ns ++ ms) ≡ contents ns ++ contents ms
+contents_append [] ms = refl
+contents_append (n ∷ ns) ms = ap (λ xs. n.content ∷ xs) (contents_append ns ms)
 
 -- A list of names has as many contents.
 pub contents_length : {A : Type 0} (ns : List (Named A)) → length (contents ns) ≡ length ns

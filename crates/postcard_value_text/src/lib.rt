@@ -1,0 +1,11 @@
+//! Texts of values whose type is known only at run time.
+#![tactic(auto)]
+
+pub mod error;
+pub mod expected;
+pub mod float;
+mod number;
+mod quoted;
+
+pub use error::TextError;
+pub use expected::Expected;
