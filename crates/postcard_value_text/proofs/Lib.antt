@@ -5,3 +5,8 @@ pub mod FloatFronts
 pub mod Fronts
 pub mod Numbers
 pub mod QuotedFronts
+pub mod Blanks
+pub mod LeafTrees
+pub mod LeafFronts
+pub mod PlainTexts
+pub mod Joined

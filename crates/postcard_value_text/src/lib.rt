@@ -4,6 +4,7 @@
 pub mod error;
 pub mod expected;
 pub mod float;
+pub mod leaves;
 mod number;
 mod quoted;
 
