@@ -63,7 +63,7 @@ items_more {X} b see p vs i v low is =
     ∙ ap (λ ts. joined b ts ++? (Some (lead i b) ++? h v)) (sym (all_by_trees see p (take i vs)))
 
 -- No trees have no texts.
-each_none : (ps : List Printer) → each_by ps NoTrees ≡ []
+pub each_none : (ps : List Printer) → each_by ps NoTrees ≡ []
 each_none [] = refl
 each_none (p ∷ ps) = refl
 
@@ -143,3 +143,13 @@ module _ {W : Type 0} (took : W → List ℕ → W → Type 0) where
   -- Writing a text and then a part writes them in a row.
   pub one_then : (f g h : Formatter W) (v : Result (Unit {0}) Error) (a : List ℕ) (o : Option (List ℕ)) → WritesOnOk took f (Ok tt) a g → DisplaysOnOk took g v o h → DisplaysOnOk took f v (Some a ++? o) h
   one_then f g h v a o one more = displays_on_IsOk_append took f g h (Ok tt) v (Some a) o (λ x. refl) one more
+
+  -- An opening bracket is what is written before the first part.
+  pub parts_begin : (f g : Formatter W) (opening separator : List ℕ) (ps : List Printer) → WritesOnOk took f (Ok tt) opening g → DisplaysOnOk took f (Ok tt) (Some opening ++? joined separator (each_by ps NoTrees)) g
+  parts_begin f g opening separator ps writes =
+      displays_on_ok_of_eq took f g (Ok tt) _ _ (sym (ap (λ ts. Some opening ++? joined separator ts) (each_none ps) ∙ ap Some (append-nil opening))) writes
+
+  -- Writing a part, a text and a part writes them in a row.
+  pub then_more : (f g h k : Formatter W) (v : Result (Unit {0}) Error) (o : Option (List ℕ)) (a : List ℕ) (p : Option (List ℕ))
+      → DisplaysOnOk took f (Ok tt) o g → WritesOnOk took g (Ok tt) a h → DisplaysOnOk took h v p k → DisplaysOnOk took f v (o ++? (Some a ++? p)) k
+  then_more f g h k v o a p one two more = displays_on_IsOk_append took f g k (Ok tt) v o (Some a ++? p) (λ x. refl) one (one_then g h k v a p two more)

@@ -10,3 +10,4 @@ pub mod LeafTrees
 pub mod LeafFronts
 pub mod PlainTexts
 pub mod Joined
+pub mod Layouts

@@ -8,6 +8,7 @@ pub mod Numbers
 pub mod Spelled
 pub mod Accepted
 -- The words that clauses of this crate cite, under one path.
+pub use Rattle.std.specs.Prelude.{string_bytes}
 pub use Rattle.std.specs.Char.{IsScalar, digit_value, encode_utf8, is_ascii_whitespace}
 pub use Rattle.std.specs.Float.{binary32, binary64}
 pub use Rattle.std.specs.Fmt.{DisplaysOnOk, WritesOnOk, debug_str, digits}

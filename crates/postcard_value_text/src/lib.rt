@@ -7,6 +7,8 @@ pub mod float;
 pub mod leaves;
 mod number;
 mod quoted;
+mod show;
 
 pub use error::TextError;
 pub use expected::Expected;
+pub use show::{Shown, has_brackets, is_unit};
