@@ -11,3 +11,7 @@ pub mod LeafFronts
 pub mod PlainTexts
 pub mod Joined
 pub mod Layouts
+pub mod Signs
+pub mod FieldNames
+pub mod Openings
+pub mod Distinct
