@@ -1,0 +1,56 @@
+-- When a text must be read: what a reader answers, what may follow a value, and types whose names tell their values apart.
+use Rattle.std.specs.Prelude.{◌≡◌, ◌≢◌, ℕ, ◌<◌, List, length, Result, MatchResult}
+use Rattle.postcard_wire.specs.Tree.{Tree}
+use Rattle.postcard_schema_text.specs.Text.{TakesPhrase, GoesOnBy}
+use Rattle.postcard_schema_text.specs.Fronts.{follows_type}
+use Rattle.postcard_value.specs.declared.value.Value.{Value}
+use Rattle.postcard_value.specs.Tree.{IsTree}
+use Rattle.postcard_value_text.specs.declared.error.Stop.{Stop}
+use Rattle.postcard_value_text.specs.declared.error.Stop.TheVariants.{Memory}
+use Rattle.postcard_value_text.specs.Layout.{Layout, Layouts, Fields, leaf, option, list, mapping, array, tuple, structure, choice, no_layouts, then_layout, no_fields, then_field}
+use Rattle.postcard_value_text.specs.Spelled.{Speller}
+
+-- None of the variants has this name.
+abbrev pub AreNotCalled : List ℕ → Fields → Type 0
+AreNotCalled name no_fields = Unit {0}
+AreNotCalled name (then_field n x fs) = (n ≢ name) × AreNotCalled name fs
+
+-- No two of the variants have the same name.
+abbrev pub NamesDiffer : Fields → Type 0
+NamesDiffer no_fields = Unit {0}
+NamesDiffer (then_field n x fs) = AreNotCalled n fs × NamesDiffer fs
+
+abbrev mutual
+  -- In the type, no name is empty, and the variants of each enum have different names.
+  pub HasDistinctNames : Layout → Type 0
+  HasDistinctNames (leaf l) = Unit {0}
+  HasDistinctNames (option x) = HasDistinctNames x
+  HasDistinctNames (list x) = HasDistinctNames x
+  HasDistinctNames (mapping x y) = HasDistinctNames x × HasDistinctNames y
+  HasDistinctNames (array x) = HasDistinctNames x
+  HasDistinctNames (tuple xs) = HaveDistinctNames xs
+  HasDistinctNames (structure fs) = AreNamed fs
+  HasDistinctNames (choice fs) = NamesDiffer fs × AreNamed fs
+
+  -- The same of each of the types.
+  pub HaveDistinctNames : Layouts → Type 0
+  HaveDistinctNames no_layouts = Unit {0}
+  HaveDistinctNames (then_layout x xs) = HasDistinctNames x × HaveDistinctNames xs
+
+  -- The same of the content of each field or variant, and its name isn't empty.
+  pub AreNamed : Fields → Type 0
+  AreNamed no_fields = Unit {0}
+  AreNamed (then_field n x fs) = (0 < length n) × HasDistinctNames x × AreNamed fs
+
+-- What may follow a value: blanks alone, or nothing, or one of the signs `]`, `)`, `,`, `}`, `=` and `>` after blanks, or `;`.
+abbrev pub FollowsValue : List ℕ → Type 0
+FollowsValue text = GoesOnBy follows_type text
+
+-- r is a value of P, and what is left of the text is `after`; or memory is lacking.
+abbrev pub ReadsAs : {V : Type 0} → (V → Type 0) → Result V Stop → List ℕ → List ℕ → Type 0
+ReadsAs P r left after = MatchResult r (λ v. P v × (left ≡ after)) (λ stop. stop ≡ Memory)
+
+-- Each front of the text that spells a tree of R is read as that tree if what follows it may follow a value, and just that front
+-- is taken; or memory is lacking.
+abbrev pub Accepts : (Tree → Type 0) → Speller → List ℕ → Result Value Stop → List ℕ → Type 0
+Accepts R S text r left = (t : Tree) (after : List ℕ) → R t → TakesPhrase (S t) text after → FollowsValue after → ReadsAs (IsTree t) r left after

@@ -1,0 +1,25 @@
+//! Texts of values whose type is known only at run time: printing with [`Shown`], and reading.
+//!
+//! Numbers are printed in decimal digits, and read as any integer literals of Rust ([`number`]). A
+//! float is printed as the shortest number that reads back ([`mod@float`]). Texts and characters
+//! are quoted, with the escapes of Rust, and byte strings are hexadecimal after `0x`. An option is
+//! `None` or `Some(7)`, a list or an array `[1, 2]`, a tuple `(1, 2)`, a struct
+//! `{id: 42, label: "x"}`, a map `{1 => true}`, and a variant `Boot`, `Reading(1, -2)` or
+//! `Fault{code: 1}`.
+//!
+//! The contract of [`Shown`] says which text it prints. That a printed text is read as the same
+//! value is proved of floats alone, and else shown by tests.
+#![tactic(auto)]
+
+pub mod error;
+pub mod expected;
+pub mod float;
+pub mod leaves;
+mod number;
+mod quoted;
+mod show;
+pub mod words;
+
+pub use error::TextError;
+pub use expected::Expected;
+pub use show::{Shown, has_brackets, is_unit};
