@@ -1,5 +1,5 @@
 -- Blanks before a value without parts: they may come before its text, and its text may stand without them.
-use Rattle.std.proofs.Common.{◌≡◌, ℕ, ◌<◌, Bool, false, List, [], ◌∷◌, length, codes, refl, ◌∙◌, arith, inl, inr}
+use Rattle.std.proofs.Common.{◌≡◌, ℕ, ◌<◌, false, List, [], ◌∷◌, length, codes, refl, ◌∙◌, arith, inl, inr}
 use Rattle.std.specs.Char.{is_ascii_whitespace}
 use Rattle.std.specs.Float.{Format}
 use Rattle.std.specs.Str.{IsTrimAsciiStart}

@@ -1,7 +1,7 @@
 -- The trees of values without parts, and their texts.
 use Rattle.std.proofs.Common.{◌≡◌, ℕ, suc, ◌%◌, ◌<◌, ◌^◌, Some, List, [], ◌∷◌, map, length, refl, sym, ap, ◌∙◌, arith}
 use Rattle.std.specs.Prelude.{slice_index}
-use Rattle.postcard_wire.specs.Tree.{Tree, Byte, Seq, trees}
+use Rattle.postcard_wire.specs.Tree.{Byte, Seq, trees}
 use Rattle.postcard_wire.specs.Reading.{IsByte, IsSeq, IsArray, Each}
 use Rattle.postcard_ser.proofs.Elements.{elements_count}
 use Rattle.postcard_shape.specs.Base256.{AreBytes}

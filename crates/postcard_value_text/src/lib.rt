@@ -1,4 +1,5 @@
-//! Texts of values whose type is known only at run time: printing with [`Shown`], and reading.
+//! Texts of values whose type is known only at run time: printing with [`Shown`], and
+//! reading those without parts ([`leaves`]).
 //!
 //! Numbers are printed in decimal digits, and read as any integer literals of Rust ([`number`]). A
 //! float is printed as the shortest number that reads back ([`mod@float`]). Texts and characters
@@ -8,7 +9,7 @@
 //! `Fault{code: 1}`.
 //!
 //! The contract of [`Shown`] says which text it prints. That a printed text is read as the same
-//! value is proved of floats alone, and else shown by tests.
+//! value is proved of floats alone.
 #![tactic(auto)]
 
 pub mod error;

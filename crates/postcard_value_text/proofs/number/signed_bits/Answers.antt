@@ -1,5 +1,5 @@
-use Rattle.std.proofs.Common.{subst, sym, rules, ◌≡◌}
-use Rattle.std.specs.Int.{w128, cast_signed, cast_unsigned}
+use Rattle.std.proofs.Common.{subst, sym, rules}
+use Rattle.std.specs.Int.{w128}
 use Rattle.std.specs.Prelude.{FitsSigned}
 use Rattle.std.proofs.lemmas.Int.{to_z-of_z}
 use Rattle.postcard_value.specs.NumberLemmas.{fits_128}
