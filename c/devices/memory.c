@@ -19,3 +19,8 @@ int memcmp(const void *a, const void *b, size_t size) {
         if (((const unsigned char *)a)[i] != ((const unsigned char *)b)[i]) return ((const unsigned char *)a)[i] < ((const unsigned char *)b)[i] ? -1 : 1;
     return 0;
 }
+size_t strlen(const char *text) {
+    size_t size = 0;
+    while (text[size] != 0) size++;
+    return size;
+}
