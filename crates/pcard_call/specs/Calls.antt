@@ -1,5 +1,5 @@
 -- Which words are a call, and why others are none.
-use Rattle.std.specs.Prelude.{◌≡◌, ◌≢◌, ◌≤◌, ℕ, nat_eq, List, [], ◌∷◌, Bool, true, false, if◌then◌else◌, ◌&&◌, ◌||◌, codes, length, Option, Some}
+use Rattle.std.specs.Prelude.{◌≡◌, ◌≢◌, ◌≤◌, ◌⊎◌, ℕ, nat_eq, List, [], ◌∷◌, Bool, true, false, if◌then◌else◌, ◌&&◌, ◌||◌, codes, length, Option, Some}
 use Rattle.std.specs.List.{starts_with}
 use lib.Pointwise.{pointwise}
 use Rattle.std.specs.Str.Parse.{IsNumeral, digits_value, without_leading_plus}
@@ -111,13 +111,13 @@ pub record HasOtherOperands (words : Words) (verb : Verb) : Type 0 where
 abbrev pub IsWrongAfter : Words → Misuse → Type 0
 IsWrongAfter words m = (verb : Verb) × (rest : Words) × (words ≡ verb_name verb ∷ rest) × IsMisused verb nothing_given rest m
 
+-- There is no verb, an unknown one, or other operands than it takes.
+abbrev pub IsWrongAround : Words → Misuse → Type 0
+IsWrongAround words NoVerb = words ≡ []
+IsWrongAround words (UnknownVerb w) = (rest : Words) × (words ≡ w.now ∷ rest) × ((verb : Verb) → w.now ≢ verb_name verb)
+IsWrongAround words (Operands verb) = HasOtherOperands words verb
+IsWrongAround words m = ⊥
+
 -- The words are no call, for this reason.
 abbrev pub IsMisuse : Words → Misuse → Type 0
-IsMisuse words NoVerb = words ≡ []
-IsMisuse words (UnknownVerb w) = (rest : Words) × (words ≡ w.now ∷ rest) × ((verb : Verb) → w.now ≢ verb_name verb)
-IsMisuse words (Operands verb) = HasOtherOperands words verb
-IsMisuse words (UnknownOption v w) = IsWrongAfter words (UnknownOption v w)
-IsMisuse words (Untaken v option) = IsWrongAfter words (Untaken v option)
-IsMisuse words (Twice option) = IsWrongAfter words (Twice option)
-IsMisuse words (NoValue option) = IsWrongAfter words (NoValue option)
-IsMisuse words (BadLongest w) = IsWrongAfter words (BadLongest w)
+IsMisuse words m = IsWrongAround words m ⊎ IsWrongAfter words m

@@ -10,5 +10,5 @@ pub use Rattle.pcard_call.specs.Options.{given_of, is_empty, is_given, nothing_g
 pub use Rattle.pcard_call.specs.Options.{with_switch}
 pub use Rattle.pcard_call.specs.Calls.{IsBadOption, IsBadValue, IsCall, IsMisuse, IsMisused}
 pub use Rattle.pcard_call.specs.Calls.{IsNewOption, OptionsThen, SaysLongest, WithValue, fits}
-pub use Rattle.pcard_call.specs.Calls.{is_input, names_input}
+pub use Rattle.pcard_call.specs.Calls.{begins_option, is_input, names_input}
 pub use Rattle.pcard_call.specs.Texts.{misuse_text, usage_of, value_of}

@@ -1,5 +1,5 @@
 -- The options of a call.
-use Rattle.std.specs.Prelude.{ℕ, List, Bool, true, false, Option, Some, None, option_map, is_some, ◌||◌, ◌!◌}
+use Rattle.std.specs.Prelude.{ℕ, List, Bool, true, false, if◌then◌else◌, Option, Some, None, option_map, is_some}
 use Rattle.pcard_call.specs.declared.options.OptionName.{OptionName}
 use Rattle.pcard_call.specs.declared.options.OptionName.TheVariants.{Checksum, Longest, Json, Frame, All, Hex, Raw}
 use Rattle.pcard_call.specs.declared.options.Options.{Options}
@@ -26,7 +26,7 @@ given_of o = record {
 }
 
 abbrev pub nothing_given : Given
-nothing_given = record { checksum = None; longest = None; json = false; frame = false; all = false; hex = false; raw = false; }
+nothing_given = record { checksum = None; longest = None; json = false; frame = false; all = false; hex = false; raw = false }
 
 -- Whether the option is given.
 abbrev pub is_given : OptionName → Given → Bool

@@ -3,7 +3,7 @@
 ghost use Rattle.std.specs.Prelude.{◌≡◌, ℕ, IfErr, IfNone, IfOk, IfSome, map, string_bytes, true};
 ghost use Rattle.pcard_call.specs.{IsBadOption, IsBadValue, IsCall, IsMisuse, IsMisused};
 ghost use Rattle.pcard_call.specs.{IsNewOption, OptionsThen, SaysLongest, WithValue, fits};
-ghost use Rattle.pcard_call.specs.{given_of, has_value, is_input, names_input};
+ghost use Rattle.pcard_call.specs.{begins_option, given_of, has_value, is_input, names_input};
 
 use crate::misuse::Misuse;
 use crate::options::{OptionName, Options};
@@ -42,7 +42,10 @@ impl<'a> Call<'a> {
         let Some(verb) = Verb::from_name(word.as_str()) else {
             return Err(Misuse::UnknownVerb(word.as_str()));
         };
-        let (options, operands) = read_options(verb, Options::none(), rest)?;
+        let (options, operands) = match read_options(verb, Options::none(), rest) {
+            Ok(read) => read,
+            Err(misuse) => return Err(misuse),
+        };
         if !fit(verb, &options, operands) {
             return Err(Misuse::Operands(verb));
         }
@@ -61,35 +64,42 @@ fn read_options<'a>(
     given: Options<'a>,
     words: &'a [String],
 ) -> Result<(Options<'a>, &'a [String]), Misuse<'a>>
-    ensures read { IfOk result (λ read. OptionsThen verb (given_of given)
+    ensures read { IfOk result (λ read. OptionsThen verb (given_of given.entry)
         (map string_bytes words.now) (given_of read.0) (map string_bytes read.1.now)) }
-    ensures misused { IfErr result (IsMisused verb (given_of given) (map string_bytes words.now)) }
+    ensures misused { IfErr result (IsMisused verb (given_of given.entry) (map string_bytes words.now)) }
 {
     let Some((word, rest)) = words.split_first() else {
         return Ok((given, words));
     };
-    if !word.as_str().starts_with("--") {
+    if !begins_option(word.as_str()) {
         return Ok((given, words));
     }
-    let option = option_of(verb, given, word.as_str())?;
+    let option = match option_of(verb, given, word.as_str()) {
+        Ok(option) => option,
+        Err(misuse) => return Err(misuse),
+    };
     if !option.has_value() {
         return read_options(verb, given.with(option), rest);
     }
     let Some((value, rest)) = rest.split_first() else {
         return Err(Misuse::NoValue(option));
     };
-    let given = with_value(given, option, value.as_str())?;
-    read_options(verb, given, rest)
+    match with_value(given, option, value.as_str()) {
+        Ok(given) => read_options(verb, given, rest),
+        Err(misuse) => Err(misuse),
+    }
+}
+
+fn begins_option(word: &str) -> bool
+    ensures { result ≡ begins_option word.now }
+{
+    word.starts_with("--")
 }
 
 /// Returns the option that a word names.
-fn option_of<'a>(
-    verb: Verb,
-    given: Options<'a>,
-    word: &'a str,
-) -> Result<OptionName, Misuse<'a>>
-    ensures found { IfOk result (IsNewOption verb (given_of given) word.now) }
-    ensures misused { IfErr result (IsBadOption verb (given_of given) word.now) }
+fn option_of<'a>(verb: Verb, given: Options<'a>, word: &'a str) -> Result<OptionName, Misuse<'a>>
+    ensures found { IfOk result (IsNewOption verb (given_of given.entry) word.now) }
+    ensures misused { IfErr result (IsBadOption verb (given_of given.entry) word.now) }
 {
     let Some(option) = OptionName::from_word(word) else {
         return Err(Misuse::UnknownOption(verb, word));
@@ -111,7 +121,7 @@ fn with_value<'a>(
 ) -> Result<Options<'a>, Misuse<'a>>
     requires { has_value option ≡ true }
     ensures added { IfOk result (λ more.
-        WithValue option value.now (given_of given) (given_of more)) }
+        WithValue option value.now (given_of given.entry) (given_of more)) }
     ensures misused { IfErr result (IsBadValue option value.now) }
 {
     if option == OptionName::Checksum {

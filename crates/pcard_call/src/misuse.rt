@@ -56,7 +56,10 @@ impl fmt::Display for Misuse<'_> {
                 write!(f, "{word} takes {value}")
             }
             Misuse::BadLongest(word) => {
-                write!(f, "--longest takes a number from 1 to 65536, and not {word}")
+                write!(
+                    f,
+                    "--longest takes a number from 1 to 65536, and not {word}"
+                )
             }
             Misuse::Operands(verb) => {
                 let (name, usage) = (verb.name(), verb.usage());

@@ -139,7 +139,10 @@ impl<'a> Options<'a> {
     {
         match option {
             OptionName::Json => Options { json: true, ..self },
-            OptionName::Frame => Options { frame: true, ..self },
+            OptionName::Frame => Options {
+                frame: true,
+                ..self
+            },
             OptionName::All => Options { all: true, ..self },
             OptionName::Hex => Options { hex: true, ..self },
             OptionName::Raw => Options { raw: true, ..self },

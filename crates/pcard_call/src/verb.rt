@@ -68,8 +68,10 @@ impl Verb {
             Verb::Decode | Verb::DecodeAll => {
                 "[--crc NAME] [--json] [--frame] TYPE HEX, or --raw TYPE [@FILE]"
             }
-            Verb::Explain => "[--all] [--crc NAME] [--json] [--frame] TYPE HEX, or --raw TYPE [@FILE]",
-            Verb::Frames => "[--crc NAME] [--json] [--longest N] [TYPE], --hex TYPE HEX, or --raw TYPE @FILE",
+            Verb::Explain =>
+                "[--all] [--crc NAME] [--json] [--frame] TYPE HEX, or --raw TYPE [@FILE]",
+            Verb::Frames =>
+                "[--crc NAME] [--json] [--longest N] [TYPE], --hex TYPE HEX, or --raw TYPE @FILE",
             Verb::Size => "TYPE",
             Verb::Checksum => "NAME HEX, or no word more",
             Verb::Types => "no word more",
