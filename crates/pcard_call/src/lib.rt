@@ -6,6 +6,7 @@
 #![tactic(auto)]
 
 pub mod call;
+pub mod laws;
 pub mod misuse;
 pub mod options;
 pub mod verb;
