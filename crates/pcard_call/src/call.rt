@@ -1,0 +1,191 @@
+//! The call of some words.
+
+ghost use Rattle.std.specs.Prelude.{◌≡◌, ℕ, IfErr, IfNone, IfOk, IfSome, map, string_bytes, true};
+ghost use Rattle.pcard_call.specs.{IsBadOption, IsBadValue, IsCall, IsMisuse, IsMisused};
+ghost use Rattle.pcard_call.specs.{IsNewOption, OptionsThen, SaysLongest, WithValue, fits};
+ghost use Rattle.pcard_call.specs.{begins_option, given_of, has_value, is_input, names_input};
+
+use crate::misuse::Misuse;
+use crate::options::{OptionName, Options};
+use crate::verb::Verb;
+
+/// The greatest number of bytes of a frame that `--longest` allows.
+pub const LONGEST: usize = 65_536;
+
+/// One call: what its words say.
+#[derive(Clone, Copy, Debug)]
+pub struct Call<'a> {
+    /// What the call does.
+    pub verb: Verb,
+    /// How it does it.
+    pub options: Options<'a>,
+    /// With what: the words after the options.
+    pub operands: &'a [String],
+}
+
+impl<'a> Call<'a> {
+    /// Returns the call of these words, which come after the program's name: the verb, its options
+    /// in any order, each at most once, and as many operands as they ask for.
+    ///
+    /// # Errors
+    ///
+    /// Fails with the first word that is wrong, from left to right, and with `Operands` if it is
+    /// none of the options.
+    pub fn parse(words: &'a [String]) -> Result<Call<'a>, Misuse<'a>>
+        ensures call { IfOk result (λ call. IsCall (map string_bytes words.now)
+            call.verb (given_of call.options) (map string_bytes call.operands.now)) }
+        ensures misuse { IfErr result (IsMisuse (map string_bytes words.now)) }
+    {
+        let Some((word, rest)) = words.split_first() else {
+            return Err(Misuse::NoVerb);
+        };
+        let Some(verb) = Verb::from_name(word.as_str()) else {
+            return Err(Misuse::UnknownVerb(word.as_str()));
+        };
+        let (options, operands) = match read_options(verb, Options::none(), rest) {
+            Ok(read) => read,
+            Err(misuse) => return Err(misuse),
+        };
+        if !fit(verb, &options, operands) {
+            return Err(Misuse::Operands(verb));
+        }
+        Ok(Call {
+            verb,
+            options,
+            operands,
+        })
+    }
+}
+
+/// Reads the options at the front of the words, where some are given already. Returns them all, and
+/// the words after them.
+fn read_options<'a>(
+    verb: Verb,
+    given: Options<'a>,
+    words: &'a [String],
+) -> Result<(Options<'a>, &'a [String]), Misuse<'a>>
+    ensures read { IfOk result (λ read. OptionsThen verb (given_of given.entry)
+        (map string_bytes words.now) (given_of read.0) (map string_bytes read.1.now)) }
+    ensures misused { IfErr result (IsMisused verb (given_of given.entry) (map string_bytes words.now)) }
+{
+    let Some((word, rest)) = words.split_first() else {
+        return Ok((given, words));
+    };
+    if !begins_option(word.as_str()) {
+        return Ok((given, words));
+    }
+    let option = match option_of(verb, given, word.as_str()) {
+        Ok(option) => option,
+        Err(misuse) => return Err(misuse),
+    };
+    if !option.has_value() {
+        return read_options(verb, given.with(option), rest);
+    }
+    let Some((value, rest)) = rest.split_first() else {
+        return Err(Misuse::NoValue(option));
+    };
+    match with_value(given, option, value.as_str()) {
+        Ok(given) => read_options(verb, given, rest),
+        Err(misuse) => Err(misuse),
+    }
+}
+
+fn begins_option(word: &str) -> bool
+    ensures { result ≡ begins_option word.now }
+{
+    word.starts_with("--")
+}
+
+/// Returns the option that a word names.
+fn option_of<'a>(verb: Verb, given: Options<'a>, word: &'a str) -> Result<OptionName, Misuse<'a>>
+    ensures found { IfOk result (IsNewOption verb (given_of given.entry) word.now) }
+    ensures misused { IfErr result (IsBadOption verb (given_of given.entry) word.now) }
+{
+    let Some(option) = OptionName::from_word(word) else {
+        return Err(Misuse::UnknownOption(verb, word));
+    };
+    if !option.is_taken_by(verb) {
+        return Err(Misuse::Untaken(verb, option));
+    }
+    if given.has(option) {
+        return Err(Misuse::Twice(option));
+    }
+    Ok(option)
+}
+
+/// Returns the options and one more, which has this value.
+fn with_value<'a>(
+    given: Options<'a>,
+    option: OptionName,
+    value: &'a str,
+) -> Result<Options<'a>, Misuse<'a>>
+    requires { has_value option ≡ true }
+    ensures added { IfOk result (λ more.
+        WithValue option value.now (given_of given.entry) (given_of more)) }
+    ensures misused { IfErr result (IsBadValue option value.now) }
+{
+    if option == OptionName::Checksum {
+        return Ok(Options {
+            checksum: Some(value),
+            ..given
+        });
+    }
+    match longest(value) {
+        Some(number) => Ok(Options {
+            longest: Some(number),
+            ..given
+        }),
+        None => Err(Misuse::BadLongest(value)),
+    }
+}
+
+/// Returns the number of a word, or `None` if it isn't a number from 1 to 65,536.
+fn longest(number: &str) -> Option<usize>
+    ensures found { IfSome result (SaysLongest number.now) }
+    ensures none { IfNone result ((n : ℕ) → SaysLongest number.now n → ⊥) }
+{
+    match number.parse::<usize>() {
+        Ok(longest) if 1 <= longest && longest <= LONGEST => Some(longest),
+        _ => None,
+    }
+}
+
+/// Returns whether the operands are those that the verb takes with these options.
+fn fit(verb: Verb, options: &Options<'_>, operands: &[String]) -> bool
+    ensures { result ≡ fits verb (given_of options.now) (map string_bytes operands.now) }
+{
+    match verb {
+        Verb::Encode => operands.len() == 2,
+        Verb::Decode | Verb::DecodeAll | Verb::Explain => {
+            if options.raw {
+                name_input(operands)
+            } else {
+                operands.len() == 2
+            }
+        }
+        Verb::Frames if options.hex => !options.raw && operands.len() == 2,
+        Verb::Frames if options.raw => name_input(operands),
+        Verb::Frames => operands.len() == 1 || operands.is_empty() && options.is_empty(),
+        Verb::Size => operands.len() == 1,
+        Verb::Checksum => operands.is_empty() || operands.len() == 2,
+        Verb::Types => operands.is_empty(),
+    }
+}
+
+/// Returns whether the operands are a type, and perhaps where its bytes are: `-` for standard
+/// input, or `@` and the name of a file.
+fn name_input(operands: &[String]) -> bool
+    ensures { result ≡ names_input (map string_bytes operands.now) }
+{
+    match operands {
+        [_kind] => true,
+        [_kind, input] => is_input(input.as_str()),
+        _ => false,
+    }
+}
+
+fn is_input(word: &str) -> bool
+    ensures { result ≡ is_input word.now }
+{
+    word == "-" || word.starts_with("@")
+}

@@ -1,0 +1,165 @@
+//! The options of a call.
+
+ghost use Rattle.std.specs.Prelude.{◌≡◌, ◌≢◌, IfNone, IfSome};
+ghost use Rattle.pcard_call.specs.{OptionName, given_of, has_value, is_empty, is_given};
+ghost use Rattle.pcard_call.specs.{nothing_given, option_name, takes, with_switch};
+
+use crate::verb::Verb;
+
+/// The name of an option.
+#[derive(Clone, Copy, Debug, PartialEq, Eq)]
+pub enum OptionName {
+    /// `--crc NAME`
+    Checksum,
+    /// `--longest N`
+    Longest,
+    /// `--json`
+    Json,
+    /// `--frame`
+    Frame,
+    /// `--all`
+    All,
+    /// `--hex`
+    Hex,
+    /// `--raw`
+    Raw,
+}
+
+impl OptionName {
+    /// Returns the option that this word names, if there is one.
+    pub fn from_word(word: &str) -> Option<OptionName>
+        ensures found { IfSome result (λ option. word.now ≡ option_name option) }
+        ensures none { IfNone result ((option : OptionName) → word.now ≢ option_name option) }
+    {
+        match word {
+            "--crc" => Some(OptionName::Checksum),
+            "--longest" => Some(OptionName::Longest),
+            "--json" => Some(OptionName::Json),
+            "--frame" => Some(OptionName::Frame),
+            "--all" => Some(OptionName::All),
+            "--hex" => Some(OptionName::Hex),
+            "--raw" => Some(OptionName::Raw),
+            _ => None,
+        }
+    }
+
+    /// Returns the word that names the option.
+    pub fn name(self) -> &'static str
+        ensures { result.now ≡ option_name self }
+    {
+        match self {
+            OptionName::Checksum => "--crc",
+            OptionName::Longest => "--longest",
+            OptionName::Json => "--json",
+            OptionName::Frame => "--frame",
+            OptionName::All => "--all",
+            OptionName::Hex => "--hex",
+            OptionName::Raw => "--raw",
+        }
+    }
+
+    /// Returns whether a value stands after the option.
+    pub fn has_value(self) -> bool
+        ensures { result ≡ has_value self }
+    {
+        matches!(self, OptionName::Checksum | OptionName::Longest)
+    }
+
+    /// Returns whether the verb takes the option.
+    pub fn is_taken_by(self, verb: Verb) -> bool
+        ensures { result ≡ takes verb self }
+    {
+        match verb {
+            Verb::Encode | Verb::Decode | Verb::DecodeAll => {
+                matches!(
+                    self,
+                    OptionName::Checksum | OptionName::Json | OptionName::Frame | OptionName::Raw
+                )
+            }
+            Verb::Explain => !matches!(self, OptionName::Longest | OptionName::Hex),
+            Verb::Frames => !matches!(self, OptionName::Frame | OptionName::All),
+            Verb::Size | Verb::Checksum | Verb::Types => false,
+        }
+    }
+}
+
+/// The options of a call, in any combination.
+#[derive(Clone, Copy, Debug, PartialEq, Eq)]
+pub struct Options<'a> {
+    /// `--crc NAME`: each message ends with the checksum of this name.
+    pub checksum: Option<&'a str>,
+    /// `--longest N`: the most bytes of a frame, its zero included.
+    pub longest: Option<usize>,
+    /// `--json`: values and answers are JSON.
+    pub json: bool,
+    /// `--frame`: each message is in a frame.
+    pub frame: bool,
+    /// `--all`: nothing is left out.
+    pub all: bool,
+    /// `--hex`: the frames are given as hexadecimal digits.
+    pub hex: bool,
+    /// `--raw`: messages are given, or for `enc` printed, as bytes.
+    pub raw: bool,
+}
+
+impl<'a> Options<'a> {
+    /// Returns the options of a call that has none.
+    pub fn none() -> Options<'a>
+        ensures { given_of result ≡ nothing_given }
+    {
+        Options {
+            checksum: None,
+            longest: None,
+            json: false,
+            frame: false,
+            all: false,
+            hex: false,
+            raw: false,
+        }
+    }
+
+    /// Returns whether the option is given.
+    pub fn has(&self, option: OptionName) -> bool
+        ensures { result ≡ is_given option (given_of self.now) }
+    {
+        match option {
+            OptionName::Checksum => self.checksum.is_some(),
+            OptionName::Longest => self.longest.is_some(),
+            OptionName::Json => self.json,
+            OptionName::Frame => self.frame,
+            OptionName::All => self.all,
+            OptionName::Hex => self.hex,
+            OptionName::Raw => self.raw,
+        }
+    }
+
+    /// Returns these options and one more that has no value.
+    pub fn with(self, option: OptionName) -> Options<'a>
+        ensures { given_of result ≡ with_switch option (given_of self.entry) }
+    {
+        match option {
+            OptionName::Json => Options { json: true, ..self },
+            OptionName::Frame => Options {
+                frame: true,
+                ..self
+            },
+            OptionName::All => Options { all: true, ..self },
+            OptionName::Hex => Options { hex: true, ..self },
+            OptionName::Raw => Options { raw: true, ..self },
+            OptionName::Checksum | OptionName::Longest => self,
+        }
+    }
+
+    /// Returns whether no option is given.
+    pub fn is_empty(&self) -> bool
+        ensures { result ≡ is_empty (given_of self.now) }
+    {
+        self.checksum.is_none()
+            && self.longest.is_none()
+            && !self.json
+            && !self.frame
+            && !self.all
+            && !self.hex
+            && !self.raw
+    }
+}

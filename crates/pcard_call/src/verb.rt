@@ -1,0 +1,80 @@
+//! What a call does.
+
+ghost use Rattle.std.specs.Prelude.{◌≡◌, ◌≢◌, IfNone, IfSome};
+ghost use Rattle.pcard_call.specs.{Verb, usage_of, verb_name};
+
+/// What a call does.
+#[derive(Clone, Copy, Debug, PartialEq, Eq)]
+pub enum Verb {
+    /// `enc`: encodes a value.
+    Encode,
+    /// `dec`: decodes the value at the front of some bytes.
+    Decode,
+    /// `decs`: decodes one value after another.
+    DecodeAll,
+    /// `frames`: decodes the frames of a stream.
+    Frames,
+    /// `explain`: describes each byte of a message.
+    Explain,
+    /// `size`: prints how many bytes the messages of a type have.
+    Size,
+    /// `crc`: computes a checksum, or lists the algorithms.
+    Checksum,
+    /// `types`: prints how a type is written.
+    Types,
+}
+
+impl Verb {
+    /// Returns the verb with this name, if there is one.
+    pub fn from_name(name: &str) -> Option<Verb>
+        ensures found { IfSome result (λ verb. name.now ≡ verb_name verb) }
+        ensures none { IfNone result ((verb : Verb) → name.now ≢ verb_name verb) }
+    {
+        match name {
+            "enc" => Some(Verb::Encode),
+            "dec" => Some(Verb::Decode),
+            "decs" => Some(Verb::DecodeAll),
+            "frames" => Some(Verb::Frames),
+            "explain" => Some(Verb::Explain),
+            "size" => Some(Verb::Size),
+            "crc" => Some(Verb::Checksum),
+            "types" => Some(Verb::Types),
+            _ => None,
+        }
+    }
+
+    /// Returns the word that names the verb.
+    pub fn name(self) -> &'static str
+        ensures { result.now ≡ verb_name self }
+    {
+        match self {
+            Verb::Encode => "enc",
+            Verb::Decode => "dec",
+            Verb::DecodeAll => "decs",
+            Verb::Frames => "frames",
+            Verb::Explain => "explain",
+            Verb::Size => "size",
+            Verb::Checksum => "crc",
+            Verb::Types => "types",
+        }
+    }
+
+    /// Returns what to write after the verb.
+    pub fn usage(self) -> &'static str
+        ensures { result.now ≡ usage_of self }
+    {
+        match self {
+            Verb::Encode => "[--crc NAME] [--json] [--frame] [--raw] TYPE VALUE",
+            Verb::Decode | Verb::DecodeAll => {
+                "[--crc NAME] [--json] [--frame] TYPE HEX, or --raw TYPE [@FILE]"
+            }
+            Verb::Explain =>
+                "[--all] [--crc NAME] [--json] [--frame] TYPE HEX, or --raw TYPE [@FILE]",
+            Verb::Frames =>
+                "[--crc NAME] [--json] [--longest N] [TYPE], --hex TYPE HEX, or --raw TYPE @FILE",
+            Verb::Size => "TYPE",
+            Verb::Checksum => "NAME HEX, or no word more",
+            Verb::Types => "no word more",
+        }
+    }
+}
