@@ -1,5 +1,5 @@
 -- Lemmas on walks that add lines: one after another, and the lines of all bytes.
-use Rattle.std.proofs.Common.{◌≡◌, ℕ, ◌+◌, ◌<◌, ◌≤◌, List, [], ◌∷◌, ◌++◌, Result, Ok, Err, refl, sym, ◌∙◌, ap, subst, arith, inl, inr, append_assoc, append-nil}
+use Rattle.std.proofs.Common.{◌≡◌, ℕ, ◌+◌, List, [], ◌∷◌, ◌++◌, Result, Ok, Err, refl, sym, ◌∙◌, ap, subst, arith, inl, inr, append_assoc, append-nil}
 use Rattle.std.specs.Prelude.{◌≢◌, ◌-◌, min}
 use Rattle.std.specs.Borrow.{Bor}
 use Rattle.postcard_wire.specs.declared.error.Error.{Error}
@@ -14,7 +14,7 @@ use Rattle.postcard_explain.specs.declared.line.Line.{Line}
 use Rattle.postcard_explain.specs.Explained.{bytes_of, Opens, Explains, ExplainsElements, ExplainsItem, ExplainsMore, ExplainsRow, IsAt, IsLast, IsMore, IsExplained, more_elements, of_entry, of_parts, of_value}
 use Rattle.postcard_explain.specs.Parts.{PlainLabel, whole, at_element, Row, HasParts, entry_row, Item, value, entry, item_type}
 use Rattle.postcard_explain.specs.RefusedLines.{IsRefusal, Refuses, RefusesElements, RefusesItem, RefusesMore, RefusesRow, in_element, in_entry, in_parts, in_value}
-use Rattle.postcard_explain.specs.Walks.{Adds, Stops, Walks, WalksValue}
+use Rattle.postcard_explain.specs.Adds.{Adds, Stops, Walks, WalksValue}
 use Rattle.postcard_explain.proofs.NoFront.{refused_none}
 use Rattle.postcard_explain.proofs.Spelled.{bytes_join, opens_nothing, spelled}
 

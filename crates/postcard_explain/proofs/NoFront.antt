@@ -1,8 +1,8 @@
 -- Bytes with lines up to a part that can't be read begin with no value: each value before that part is the only one there.
-use Rattle.std.proofs.Common.{◌≡◌, ℕ, zero, suc, ◌-◌, ◌<◌, ◌^◌, List, [], ◌∷◌, ◌++◌, length, get_or, take, refl, sym, ◌∙◌, ap, subst, arith, inl, inr, append_assoc, append-nil}
+use Rattle.std.proofs.Common.{◌≡◌, ℕ, zero, suc, ◌-◌, ◌<◌, List, [], ◌∷◌, ◌++◌, length, get_or, take, sym, ◌∙◌, ap, subst, arith, inl, inr, append_assoc, append-nil}
 use Rattle.std.proofs.lemmas.List.{append_cancel_left}
 use Rattle.postcard_wire.specs.Number.{SpellsNum}
-use Rattle.postcard_wire.specs.Tree.{Trees, Present, Seq, Group, Variant, NoTrees, Then, count}
+use Rattle.postcard_wire.specs.Tree.{Trees, Present, Seq, Variant, NoTrees, Then, count}
 use Rattle.postcard_wire.specs.Spelling.{Spells, SpellsAll}
 use Rattle.postcard_wire.proofs.Delimited.{num_front}
 use Rattle.postcard_shape.specs.Lists.{AreRead}
@@ -70,12 +70,14 @@ flag_none t bytes front rest none cut (tree, inr (u, is, r), f) =
     let j : Spells (Present u) front = rw is at f in
     (none (j.1 ++ rest)).1 (cut ∙ ap (λ z. z ++ rest) (j.4 ∙ ap (λ z. z ++ j.1) j.2))
 
+heads : (a b : ℕ) (p q : List ℕ) → a ∷ p ≡ b ∷ q → a ≡ b
+heads a b p q e = cc
+
 present_none : (t : MessageType) (q front rest : List ℕ) → HasNone t q → 1 ∷ q ≡ front ++ rest → FrontSpells (option t) front → ⊥
 present_none t q front rest none cut (tree, inl is, f) =
     let here : front ≡ 0 ∷ [] = rw is at f in
     let both : 1 ∷ q ≡ 0 ∷ rest = cut ∙ ap (λ z. z ++ rest) here in
-    let never : 1 ≡ 0 = cc in
-    omega (arith, never)
+    omega (arith, heads 1 0 q rest both)
 present_none t q front rest none cut (tree, inr (u, is, r), f) =
     let j : Spells (Present u) front = rw is at f in
     let both : 1 ∷ q ≡ 1 ∷ (j.1 ++ rest) = cut ∙ ap (λ z. z ++ rest) (j.4 ∙ ap (λ z. z ++ j.1) j.2) in

@@ -1,5 +1,5 @@
 -- Lemmas on the parts and the items of a value: their types, their depths, and each by its index.
-use Rattle.std.proofs.Common.{◌≡◌, ℕ, zero, suc, ◌+◌, ◌<◌, ◌≤◌, List, [], ◌∷◌, ◌++◌, length, get_or, refl, sym, ap, ◌∙◌, arith, inl, inr}
+use Rattle.std.proofs.Common.{◌≡◌, ℕ, zero, suc, ◌+◌, ◌<◌, ◌≤◌, List, [], ◌∷◌, ◌++◌, length, get_or, refl, sym, ap, subst, ◌∙◌, arith, inl, inr, append-nil}
 use Rattle.std.specs.Prelude.{Vec, string_bytes}
 use Rattle.std.specs.declared.alloc.Global.{Global}
 use Rattle.postcard_schema.specs.declared.schema.Named.{Named}
@@ -7,7 +7,10 @@ use Rattle.postcard_schema.specs.declared.schema.Schema.{Schema}
 use Rattle.postcard_schema.specs.declared.schema.Schema.TheVariants as schemas
 use Rattle.postcard_schema.specs.Bounds.{depth, greatest_depth}
 use Rattle.postcard_schema.specs.Lemmas.{type_of_enum, type_of_map, type_of_seq, type_of_struct, type_of_tuple}
-use Rattle.postcard_schema.specs.Meaning.{contents, type_of, types_of, seq, group}
+use Rattle.postcard_schema.specs.Meaning.{MessageType, contents, entry_of, type_of, types_of, seq, group}
+use Rattle.postcard_wire.specs.Tree.{NoTrees, Then}
+use Rattle.postcard_wire.specs.Spelling.{Spells, SpellsAll}
+use Rattle.postcard_value.specs.Fronts.{FrontSpells}
 use Rattle.postcard_explain.specs.Parts.{PlainLabel, at_field, at_part, Row, numbered, named, schemas_of, HasParts, Item, item_type, HasItems}
 
 -- ---- schemas and types
@@ -65,18 +68,26 @@ pub length_named : (fs : List (Named Schema)) → length (named fs) ≡ length f
 length_named [] = refl
 length_named (f ∷ fs) = ap suc (length_named fs)
 
-pub numbered_at : (k : ℕ) (ss : List Schema) (i : ℕ) (s : Schema) → i < length ss → s ≡ get_or ss i s
-    → (at_part (k + i), s) ≡ get_or (numbered k ss) i (at_part (k + i), s)
-numbered_at k [] i s low e = absurd (omega (arith, low))
-numbered_at k (x ∷ xs) zero s low e =
-    let same : k + 0 ≡ k = omega arith in
+pub numbered_at : (k : ℕ) (ss : List Schema) (i n : ℕ) (s : Schema) → n ≡ k + i → i < length ss → s ≡ get_or ss i s
+    → (at_part n, s) ≡ get_or (numbered k ss) i (at_part n, s)
+numbered_at k [] i n s is low e = absurd (omega (arith, low))
+numbered_at k (x ∷ xs) zero n s is low e =
+    let same : n ≡ k = omega (arith, is) in
     rw (same, ← e) refl
-numbered_at k (x ∷ xs) (suc i) s low e =
-    let same : k + suc i ≡ (k + 1) + i = omega arith in
-    rw same (numbered_at (k + 1) xs i s (omega (arith, low)) e)
+numbered_at k (x ∷ xs) (suc i) n s is low e = numbered_at (k + 1) xs i n s (omega (arith, is)) (omega (arith, low)) e
 
 pub named_at : (fs : List (Named Schema)) (i : ℕ) (f : Named Schema) (label : PlainLabel) → i < length fs → f ≡ get_or fs i f
     → label ≡ at_field (string_bytes f.name) → (label, f.content) ≡ get_or (named fs) i (label, f.content)
 named_at [] i f label low e called = absurd (omega (arith, low))
 named_at (x ∷ xs) zero f label low e called = rw called (ap (λ (n : Named Schema). (at_field (string_bytes n.name), n.content)) e)
 named_at (x ∷ xs) (suc i) f label low e called = named_at xs i f label (omega (arith, low)) e called
+
+-- ---- entries
+
+-- What encodes an entry encodes its key, and then its value.
+pub entry_cut : (k v : MessageType) (p : List ℕ) → FrontSpells (entry_of k v) p → (x y : List ℕ) × FrontSpells k x × FrontSpells v y × (p ≡ x ++ y)
+entry_cut k v p (tree, (ts, is, (t, more, e, r, (u, none, d, q, end))), f) =
+    let g : SpellsAll (Then t (Then u NoTrees)) p = rw (is, e, d, end) at f in
+    let h = g.3 in
+    let same : g.1 ≡ h.0 = h.4 ∙ ap (λ z. h.0 ++ z) h.3 ∙ append-nil h.0 in
+    (g.0, g.1, (t, r, g.2), (u, q, subst (λ z. Spells u z) (sym same) h.2), g.4)

@@ -1,5 +1,5 @@
 -- Lines that explain a value of a type have bytes that encode one.
-use Rattle.std.proofs.Common.{◌≡◌, ℕ, zero, suc, ◌+◌, ◌<◌, ◌^◌, List, [], ◌∷◌, ◌++◌, refl, sym, ◌∙◌, ap, subst, arith, inl, inr, append_assoc, append-nil}
+use Rattle.std.proofs.Common.{◌≡◌, ℕ, ◌+◌, ◌-◌, ◌<◌, ◌^◌, List, [], ◌∷◌, ◌++◌, refl, sym, ◌∙◌, ap, subst, arith, inl, inr, append_assoc, append-nil}
 use Rattle.postcard_wire.specs.Number.{SpellsNum}
 use Rattle.postcard_wire.specs.Tree.{Tree, Trees, Absent, Present, Seq, Group, Variant, NoTrees, Then}
 use Rattle.postcard_wire.specs.Spelling.{Spells, SpellsAll}

@@ -1,5 +1,5 @@
 -- Which lines explain the bytes of a value.
-use Rattle.std.specs.Prelude.{◌≡◌, ℕ, ◌+◌, ◌^◌, ◌<◌, ◌⊎◌, min, List, [], ◌∷◌, ◌++◌, length, get_or, Vec, Box, string_bytes}
+use Rattle.std.specs.Prelude.{◌≡◌, ℕ, ◌+◌, ◌-◌, ◌^◌, ◌<◌, ◌⊎◌, min, List, [], ◌∷◌, ◌++◌, length, get_or, Vec, Box, string_bytes}
 use Rattle.std.specs.declared.alloc.Global.{Global}
 use Rattle.postcard_wire.specs.Number.{SpellsNum}
 use Rattle.postcard_de.specs.Front.{ReadsFront}

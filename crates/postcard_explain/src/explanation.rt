@@ -61,10 +61,12 @@ pub fn explain<'a>(
                 refused: None,
             })
         }
-        Err(Error::OutOfMemory) => Err(Error::OutOfMemory),
-        Err(error) => Ok(Explanation {
-            lines: walk.lines,
-            refused: Some(error),
-        }),
+        Err(error) => match error {
+            Error::OutOfMemory => Err(error),
+            _ => Ok(Explanation {
+                lines: walk.lines,
+                refused: Some(error),
+            }),
+        },
     }
 }

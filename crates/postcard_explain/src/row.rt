@@ -43,7 +43,7 @@ impl<'a> Row<'a> {
 
     /// Returns what the part at this index is called, and its type.
     pub fn part(self, index: usize) -> (Label<'a>, &'a Schema)
-        requires { index < length (parts_of self.entry) }
+        requires { index < length (parts_of self) }
         ensures { (plain_label result.0, result.1.now)
             ≡ get_or (parts_of self.entry) index (plain_label result.0, result.1.now) }
     {

@@ -104,8 +104,8 @@ pub(crate) fn refuse<'a>(
     Err(error)
 }
 
-/// Adds the line before the parts of a value, unless it is the whole value, and returns the depth of
-/// the parts.
+/// Adds the line before the parts of a value, and returns the depth of the parts. Before those of
+/// the whole value there is no line.
 pub(crate) fn open_parts<'a>(walk: &mut Walk<'a>, place: Place<'a>) -> Result<usize>
     ensures added { IfOk result (λ inner. (head : List Line)
         × Opens place.entry.depth (plain_label place.entry.label) inner head

@@ -12,15 +12,15 @@ returns-in-Ok-clause-every_byte c =
     all_bytes _ c.args.schema.now c.args.bytes.now _
     (all_explained _ c.args.schema.now c.args.bytes.now c.in-Ok.rest.now _ _ _ last.0 c.new.ensures.items c.in-Ok.ensures last.1 last.2 last.3)
 
-pub returns-in-Err-clause-every_byte : goal.returns-in-Err-clause-every_byte
-returns-in-Err-clause-every_byte c =
-    (all_refused c.args.most c.args.schema.now c.args.bytes.now _ _ c.in-Err.error c.new.ensures.items c.in-Err.ensures c.in-Err.not-OutOfMemory).0
+pub returns-clause-every_byte : goal.returns-clause-every_byte
+returns-clause-every_byte c =
+    (all_refused c.args.most c.args.schema.now c.args.bytes.now _ _ c.in-Err.error c.new.ensures.items c.in-Err.ensures c.in_default.not-OutOfMemory).0
 
-pub returns-in-Err-clause-stopped : goal.returns-in-Err-clause-stopped
-returns-in-Err-clause-stopped c =
-    let h = all_refused c.args.most c.args.schema.now c.args.bytes.now _ _ c.in-Err.error c.new.ensures.items c.in-Err.ensures c.in-Err.not-OutOfMemory in
-    (h.2, c.in-Err.ensures.0, c.in-Err.not-OutOfMemory)
+pub returns-clause-stopped : goal.returns-clause-stopped
+returns-clause-stopped c =
+    let h = all_refused c.args.most c.args.schema.now c.args.bytes.now _ _ c.in-Err.error c.new.ensures.items c.in-Err.ensures c.in_default.not-OutOfMemory in
+    (h.2, c.in-Err.ensures.0, c.in_default.not-OutOfMemory)
 
-pub returns-in-Err-clause-stopped_lines : goal.returns-in-Err-clause-stopped_lines
-returns-in-Err-clause-stopped_lines c =
-    (all_refused c.args.most c.args.schema.now c.args.bytes.now _ _ c.in-Err.error c.new.ensures.items c.in-Err.ensures c.in-Err.not-OutOfMemory).1
+pub returns-clause-stopped_lines : goal.returns-clause-stopped_lines
+returns-clause-stopped_lines c =
+    (all_refused c.args.most c.args.schema.now c.args.bytes.now _ _ c.in-Err.error c.new.ensures.items c.in-Err.ensures c.in_default.not-OutOfMemory).1

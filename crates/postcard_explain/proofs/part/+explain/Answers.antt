@@ -1,17 +1,19 @@
 use Rattle.std.proofs.Common.{◌≡◌, ◌+◌, ◌-◌, ◌<◌, ◌≤◌, [], ◌∷◌, ◌++◌, length, take, take_all, get_or, refl, sym, ap, subst, ◌∙◌, inl, inr, arith, append_assoc, append-nil}
 use Rattle.std.proofs.lemmas.Grind.{common_steps}
 use Rattle.std.proofs.lemmas.List.{take_more}
-use Rattle.std.specs.Prelude.{min}
+use Rattle.std.specs.Prelude.{min, string_bytes}
+use Rattle.postcard_schema.specs.Bounds.{depth}
+use Rattle.postcard_schema.specs.Meaning.{type_of}
 use Rattle.postcard_wire.specs.Tree.{Num, NoTrees}
 use Rattle.postcard_de_nodes.specs.ReadLemmas.{is_refusal}
 use Rattle.postcard_value.specs.Fronts.{SpellsEach}
-use Rattle.postcard_value.proofs.FrontLemmas.{each_more, number_read, option_depth, array_depth}
+use Rattle.postcard_value.proofs.FrontLemmas.{each_more, number_read}
 use Rattle.postcard_explain.specs.declared.line.Expected.TheVariants as expectations
 use Rattle.postcard_explain.specs.Explained.{bytes_of, Explains, ExplainsElements, ExplainsItem, ExplainsMore, ExplainsParts, ExplainsRow, IsMore, of_absent, of_array, of_list, of_present, of_row, of_variant, no_elements, no_parts, one_element, one_part}
-use Rattle.postcard_explain.specs.Parts.{at_element, item_of, item_type, named, numbered, parts_of, plain_label, value, entry}
+use Rattle.postcard_explain.specs.Parts.{at_element, at_field, item_of, item_type, named, numbered, parts_of, plain_label, value}
 use Rattle.postcard_explain.specs.RefusedLines.{Refuses, RefusesElements, RefusesItem, RefusesMore, RefusesParts, RefusesRow, no_count, no_flag, no_index, in_array, in_element, in_list, in_part, in_present, in_row, in_variant}
 use Rattle.postcard_explain.proofs.LineLemmas.{adds_both, stops_on, walks_on, refused_as, pushed, pushed_on, opened_on, row_as, value_as, entry_as, more_bytes, more_explained, elements_more, refuses_more}
-use Rattle.postcard_explain.proofs.PartLemmas.{named_at, part_depth, parts_depth, items_depth, variants_depth}
+use Rattle.postcard_explain.proofs.PartLemmas.{length_named, named_at, part_depth, parts_depth, row_depth, variants_depth}
 use Rattle.postcard_explain.proofs.Spelled.{item_spelled, opens_nothing}
 use Rattle.postcard_explain.proofs.part.+explain.Goals as goal
 
@@ -50,6 +52,41 @@ explain_item-returns-in-Value t c = rw c.in-Value.is (value_as _ _ _ c.in-Value.
 
 pub explain_item-returns-in-Entry : goal.explain_item-returns-in-Entry
 explain_item-returns-in-Entry t c = rw c.in-Entry.is (entry_as _ _ _ c.in-Entry.key.now c.in-Entry.value.now _ _ _ c.explain_row.result c.explain_row.ensures)
+
+-- ---- why the walk ends
+
+pub explain_part-explain_row-requires : goal.explain_part-explain_row-requires
+explain_part-explain_row-requires t c =
+    let v = c.in-Tuple.parts in
+    let smaller : row_depth (numbered 0 v.items) < depth (type_of c.args.schema.now) = parts_depth _ _ (inl (v, c.in-Tuple.is, refl)) in
+    (omega (arith, c.decreases, smaller), tt)
+
+pub explain_part-explain_row-requires-in-Struct : goal.explain_part-explain_row-requires-in-Struct
+explain_part-explain_row-requires-in-Struct t c =
+    let v = c.in-Struct.fields in
+    let smaller : row_depth (named v.items) < depth (type_of c.args.schema.now) = parts_depth _ _ (inr (v, c.in-Struct.is, refl)) in
+    (omega (arith, c.decreases, smaller), tt)
+
+pub explain_part-explain_variant-requires : goal.explain_part-explain_variant-requires
+explain_part-explain_variant-requires t c = (omega (arith, c.decreases, variants_depth c.args.schema.now c.in-Enum.variants c.in-Enum.is), tt)
+
+pub explain_row-explain_part-requires : goal.explain_row-explain_part-requires
+explain_row-explain_part-requires t c =
+    let row = parts_of c.args.row in
+    let low : c.loop-i.i < length row = omega (arith, c.len-i-end.ensures) in
+    (omega (arith, c.decreases, part_depth row c.loop-i.i (plain_label c.part.result.0) c.part.result.1.now low c.part.ensures), tt)
+
+pub explain_variant-explain_part-requires : goal.explain_variant-explain_part-requires
+explain_variant-explain_part-requires t c =
+    let i = c.in-Ok.read.0 in
+    let x = c.in-Some.variant.now in
+    let xs = c.args.variants.now.items in
+    let inside : i < length c.deref.result.now = grind (arith, common_steps) in
+    let low : i < length xs = rw c.deref.ensures.value at inside in
+    let found : x ≡ get_or xs i x = rw c.deref.ensures.value at c.in-Some.ensures.lookup.1 in
+    let within : i < length (named xs) = rw (length_named xs) low in
+    let smaller = part_depth (named xs) i _ x.content within (named_at xs i x (at_field (string_bytes x.name)) low found refl) in
+    (omega (arith, c.decreases, smaller), tt)
 
 -- ---- options
 
@@ -233,10 +270,10 @@ explain_row-returns-in_err-rest t c =
     let x = c.part.result.1.now in
     let e = c.in_err-rest.field-0.0 in
     let o = c.in_ok-depth.ensures.added in
-    let low : i < length row = omega (arith, c.len.ensures) in
+    let low : i < length row = omega (arith, c.len-i-end.ensures) in
     let stopped = stops_on (ExplainsParts m own (take i row)) (Refuses m own name x) (RefusesParts m own row)
     (λ p q h j. in_part own row i name x p q low c.part.ensures h j) _ _ _ _ _ e c.loop-i.invariant c.in_err-rest.ensures in
-    rw (is_refusal c.from_residual.result e c.from_residual.ensures.1)
+    rw (is_refusal c.from_residual-in_err-rest.result e c.from_residual-in_err-rest.ensures.1)
     (stops_on (λ ls. ls ≡ o.0) (RefusesParts m own row) (RefusesRow m d b row) (λ p q h j. subst (λ ls. RefusesRow m d b row (ls ++ q)) (sym h) (in_row d b row own o.0 q o.1 j))
     _ _ _ _ _ e (o.0, refl, o.2, ap (λ p. p ++ c.args.bytes.now) (sym (opens_nothing d b own o.0 o.1))) stopped)
 
@@ -248,7 +285,7 @@ explain_row-loop-i-preserved t c =
     let i = c.loop-i.i in
     let name = plain_label c.part.result.0 in
     let x = c.part.result.1.now in
-    let low : i < length row = omega (arith, c.len.ensures) in
+    let low : i < length row = omega (arith, c.len-i-end.ensures) in
     let more : take (i + 1) row ≡ take i row ++ (name, x) ∷ [] = take_more row i (name, x) low ∙ ap (λ y. take i row ++ y ∷ []) (sym c.part.ensures) in
     adds_both (ExplainsParts m own (take i row)) (Explains m own name x) (ExplainsParts m own (take (i + 1) row))
     (λ p q h j. rw more (one_part own (take i row) name x p q h j)) _ _ _ _ _ _ c.loop-i.invariant c.in_ok-rest.ensures
@@ -261,7 +298,7 @@ explain_row-returns t c =
     let own = c.in_ok-depth.depth in
     let row = parts_of c.args.row in
     let o = c.in_ok-depth.ensures.added in
-    let all : take c.loop-i.i row ≡ row = take_all c.loop-i.i row (omega (arith, c.len.ensures)) in
+    let all : take c.loop-i.i row ≡ row = take_all c.loop-i.i row (omega (arith, c.len-i-end.ensures)) in
     adds_both (λ ls. ls ≡ o.0) (ExplainsParts m own row) (ExplainsRow m d b row)
     (λ p q h j. subst (λ ls. ExplainsRow m d b row (ls ++ q)) (sym h) (of_row d b row own o.0 q o.1 j)) _ _ _ _ _ _
     (o.0, refl, o.2, ap (λ p. p ++ c.args.bytes.now) (sym (opens_nothing d b own o.0 o.1))) (rw all at c.loop-i.invariant)
