@@ -1,0 +1,4 @@
+mod PartLemmas
+mod Spelled
+mod NoFront
+mod LineLemmas
