@@ -15,3 +15,7 @@ pub mod Signs
 pub mod FieldNames
 pub mod Openings
 pub mod Distinct
+pub mod Items
+pub mod Parts
+pub mod Groups
+pub mod Choices

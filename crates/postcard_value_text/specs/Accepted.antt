@@ -1,14 +1,16 @@
 -- When a text must be read: what a reader answers, what may follow a value, and types whose names tell their values apart.
-use Rattle.std.specs.Prelude.{◌≡◌, ◌≢◌, ℕ, ◌<◌, List, length, Result, MatchResult}
-use Rattle.postcard_wire.specs.Tree.{Tree}
+use Rattle.std.specs.Prelude.{◌≡◌, ◌≢◌, ℕ, ◌<◌, List, length, map, Vec, Result, IfOk, MatchResult}
+use Rattle.std.specs.declared.alloc.Global.{Global}
+use Rattle.postcard_wire.specs.Reading.{Each}
+use Rattle.postcard_wire.specs.Tree.{Tree, trees}
 use Rattle.postcard_schema_text.specs.Text.{TakesPhrase, GoesOnBy}
 use Rattle.postcard_schema_text.specs.Fronts.{follows_type}
 use Rattle.postcard_value.specs.declared.value.Value.{Value}
-use Rattle.postcard_value.specs.Tree.{IsTree}
+use Rattle.postcard_value.specs.Tree.{tree, IsTree}
 use Rattle.postcard_value_text.specs.declared.error.Stop.{Stop}
 use Rattle.postcard_value_text.specs.declared.error.Stop.TheVariants.{Memory}
 use Rattle.postcard_value_text.specs.Layout.{Layout, Layouts, Fields, leaf, option, list, mapping, array, tuple, structure, choice, no_layouts, then_layout, no_fields, then_field}
-use Rattle.postcard_value_text.specs.Spelled.{Speller}
+use Rattle.postcard_value_text.specs.Spelled.{Speller, AreClosed, phrases}
 
 -- None of the variants has this name.
 abbrev pub AreNotCalled : List ℕ → Fields → Type 0
@@ -54,3 +56,19 @@ ReadsAs P r left after = MatchResult r (λ v. P v × (left ≡ after)) (λ stop.
 -- is taken; or memory is lacking.
 abbrev pub Accepts : (Tree → Type 0) → Speller → List ℕ → Result Value Stop → List ℕ → Type 0
 Accepts R S text r left = (t : Tree) (after : List ℕ) → R t → TakesPhrase (S t) text after → FollowsValue after → ReadsAs (IsTree t) r left after
+
+-- The answer r of a call that reads from the start of the text, and leaves `left`. What it reads is of R, and the text before `left` spells
+-- it. If the names tell values apart (N), each front of the text that spells one of R, and that may stand there, is read as it and taken; or
+-- memory is lacking.
+pub record ReadsText {T V : Type 0} (see : V → T) (N : Type 0) (R : T → Type 0) (S : T → List ℕ → Type 0) (text : List ℕ) (r : Result V Stop) (left : List ℕ) : Type 0 where
+  pub value : IfOk r (λ v. R (see v))
+  pub spelled : IfOk r (λ v. TakesPhrase (S (see v)) text left)
+  pub accepted : N → (t : T) (after : List ℕ) → R t → TakesPhrase (S t) text after → FollowsValue after → ReadsAs (λ v. t ≡ see v) r left after
+
+-- A call that reads a value.
+abbrev pub ReadsTree : Type 0 → (Tree → Type 0) → Speller → List ℕ → Result Value Stop → List ℕ → Type 0
+ReadsTree = ReadsText tree
+
+-- A call that reads values of R up to a closing bracket.
+abbrev pub ReadsItems : Type 0 → (Tree → Type 0) → Speller → ℕ → List ℕ → Result (Vec Value Global) Stop → List ℕ → Type 0
+ReadsItems N R S closing = ReadsText (λ v. trees (map tree v.items)) N (Each R) (λ ts. AreClosed closing (phrases S ts))

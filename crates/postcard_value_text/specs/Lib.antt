@@ -17,7 +17,7 @@ pub use Rattle.std.specs.List.{AllPass, list_all}
 pub use Rattle.std.specs.Str.{IsTrimAsciiStart}
 pub use Rattle.std.specs.Str.Parse.{without_leading_plus}
 pub use Rattle.postcard_wire.specs.Reading.{Each, IsArray, IsGroup, IsOption, IsSeq, IsVariant}
-pub use Rattle.postcard_wire.specs.Tree.{Byte, Tree, Trees, trees}
+pub use Rattle.postcard_wire.specs.Tree.{Byte, Group, Tree, Trees, trees}
 pub use Rattle.postcard_schema.specs.Leaves.{float_size, is_signed, size_of}
 pub use Rattle.postcard_schema.specs.Meaning.{contents, entry_of, group, leaf_reads, no_types}
 pub use Rattle.postcard_schema.specs.Meaning.{reads, reads_all, reads_at, type_of, types_of}
@@ -29,7 +29,7 @@ pub use Rattle.postcard_schema_text.specs.Text.{Then}
 pub use Rattle.postcard_value.specs.Tree.{tree}
 pub use Rattle.postcard_value_text.specs.Accepted.{Accepts, AreNamed, FollowsValue}
 pub use Rattle.postcard_value_text.specs.Accepted.{HasDistinctNames, HaveDistinctNames}
-pub use Rattle.postcard_value_text.specs.Accepted.{NamesDiffer, ReadsAs}
+pub use Rattle.postcard_value_text.specs.Accepted.{NamesDiffer, ReadsAs, ReadsItems, ReadsTree}
 pub use Rattle.postcard_value_text.specs.Floats.{AreNan, EndsFloat, EndsNumber, IsFloatWord}
 pub use Rattle.postcard_value_text.specs.Floats.{IsHexadecimal, ShowsFloat, SpellsFloat, format_of}
 pub use Rattle.postcard_value_text.specs.Floats.{is_of_float as is_of_number}

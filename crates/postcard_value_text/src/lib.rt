@@ -1,5 +1,5 @@
-//! Texts of values whose type is known only at run time: printing with [`Shown`], and
-//! reading those without parts ([`leaves`]).
+//! Texts of values whose type is known only at run time: printing with [`Shown`], and reading with
+//! [`read_text`]. `docs/PCARD.md` has a table of the text of each type.
 //!
 //! Numbers are printed in decimal digits, and read as any integer literals of Rust ([`number`]). A
 //! float is printed as the shortest number that reads back ([`mod@float`]). Texts and characters
@@ -8,8 +8,9 @@
 //! `{id: 42, label: "x"}`, a map `{1 => true}`, and a variant `Boot`, `Reading(1, -2)` or
 //! `Fault{code: 1}`.
 //!
-//! The contract of [`Shown`] says which text it prints. That a printed text is read as the same
-//! value is proved of floats alone.
+//! By its contract, [`read_text`] returns a value that the text spells, and reads each text that
+//! spells one if memory suffices; that of [`Shown`] says which text it prints. That a printed text
+//! is read as the same value is proved of floats alone, and else shown by tests.
 #![tactic(auto)]
 
 pub mod error;
@@ -18,9 +19,11 @@ pub mod float;
 pub mod leaves;
 mod number;
 mod quoted;
+mod read;
 mod show;
 pub mod words;
 
 pub use error::TextError;
 pub use expected::Expected;
+pub use read::read_text;
 pub use show::{Shown, has_brackets, is_unit};

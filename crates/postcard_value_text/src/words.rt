@@ -109,3 +109,48 @@ pub fn close_parts(rest: &mut &[u8], are_none: bool, closing: u8) -> Result<(), 
     }
     expect(rest, closing, Expected::Sign(closing))
 }
+
+/// Takes the `,` before a part, or nothing before the first one. Stops where this is expected.
+pub fn separate<'a>(
+    rest: &mut &[u8],
+    is_first: bool,
+    expected: Expected<'a>,
+) -> Result<(), Stop<'a>>
+    ensures taken { OnOk result (TakesPhrase (Unless is_first (IsSign 44))
+        rest.old.now rest.new.now) }
+    ensures accepted { (after : List ℕ)
+        → TakesPhrase (Unless is_first (IsSign 44)) rest.old.now after
+        → MatchResult result (λ done. rest.new.now ≡ after) (λ stop. ⊥) }
+{
+    if is_first {
+        return Ok(());
+    }
+    expect(rest, b',', expected)
+}
+
+/// Takes the `=>` between a key and its value.
+pub fn take_arrow(rest: &mut &[u8]) -> Result<(), Stop<'static>>
+    ensures taken { OnOk result (TakesPhrase (Then (IsSign 61) (IsSign 62))
+        rest.old.now rest.new.now) }
+    ensures accepted { (after : List ℕ)
+        → TakesPhrase (Then (IsSign 61) (IsSign 62)) rest.old.now after
+        → MatchResult result (λ done. rest.new.now ≡ after) (λ stop. ⊥) }
+{
+    expect(rest, b'=', Expected::Arrow)?;
+    expect(rest, b'>', Expected::Arrow)
+}
+
+/// Takes the name of a field and `:`.
+pub fn take_label<'a>(rest: &mut &[u8], name: &'a str) -> Result<(), Stop<'a>>
+    ensures taken { OnOk result (TakesPhrase (Then (IsFieldName name.now) (IsSign 58))
+        rest.old.now rest.new.now) }
+    ensures accepted { 0 < length name.now → (after : List ℕ)
+        → TakesPhrase (Then (IsFieldName name.now) (IsSign 58)) rest.old.now after
+        → MatchResult result (λ done. rest.new.now ≡ after) (λ stop. ⊥) }
+{
+    skip_blanks(rest);
+    if !take_field(rest, name.as_bytes()) {
+        return Err(Stop::here(rest, Expected::Field(name)));
+    }
+    expect(rest, b':', Expected::Sign(b':'))
+}
