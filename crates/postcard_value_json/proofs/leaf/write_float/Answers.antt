@@ -1,1 +1,0 @@
--- The prover finds this proof, also beside calls that are refused.
