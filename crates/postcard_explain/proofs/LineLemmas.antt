@@ -11,10 +11,10 @@ use Rattle.postcard_value.specs.Fronts.{HasNoFront, SpellsEach}
 use Rattle.postcard_explain.specs.declared.line.Expected.{Expected}
 use Rattle.postcard_explain.specs.declared.line.LineKind.TheVariants.{Refused}
 use Rattle.postcard_explain.specs.declared.line.Line.{Line}
-use Rattle.postcard_explain.specs.Explained.{bytes_of, Opens, Explains, ExplainsElements, ExplainsItem, ExplainsMore, ExplainsRow, IsAt, IsLast, IsMore, IsExplained, more_elements, of_entry, of_parts, of_value}
+use Rattle.postcard_explain.specs.Explained.{bytes_of, Opens, Explains, ExplainsElements, ExplainsItem, ExplainsMore, ExplainsParts, ExplainsRow, IsAt, IsLast, IsMore, IsExplained, more_elements, of_entry, of_parts, of_row, of_value}
 use Rattle.postcard_explain.specs.Parts.{PlainLabel, whole, at_element, Row, HasParts, entry_row, Item, value, entry, item_type}
-use Rattle.postcard_explain.specs.RefusedLines.{IsRefusal, Refuses, RefusesElements, RefusesItem, RefusesMore, RefusesRow, in_element, in_entry, in_parts, in_value}
-use Rattle.postcard_explain.specs.Adds.{Adds, Stops, Walks, WalksValue}
+use Rattle.postcard_explain.specs.RefusedLines.{IsRefusal, Refuses, RefusesElements, RefusesItem, RefusesMore, RefusesParts, RefusesRow, in_element, in_entry, in_parts, in_row, in_value}
+use Rattle.postcard_explain.specs.Walking.{Adds, Stops, Walks, WalksValue}
 use Rattle.postcard_explain.proofs.NoFront.{refused_none}
 use Rattle.postcard_explain.proofs.Spelled.{bytes_join, opens_nothing, spelled}
 
@@ -48,12 +48,13 @@ walks_as P Q T S f g old new bytes (Ok v) (a, p, is, e) = (a, f a p, is, e)
 walks_as P Q T S f g old new bytes (Err e) (known, w) = (known, λ other. let k = w other in (k.0, g k.0 k.1, k.2, k.3))
 
 -- A walk that stops at once adds the line of a part that can't be read.
-pub refused_as : (P S : List Line → Type 0) (depth : ℕ) (label : PlainLabel) (expected : Expected) (error : Error) (old new : List Line) (bytes : List ℕ)
+pub refused_as : (most depth : ℕ) (label : PlainLabel) (s : Schema) (expected : Expected) (error : Error) (old new : List Line) (bytes : List ℕ)
     (r : Result (Bor (List ℕ)) Error)
-    → ((line : Line) → IsAt depth label line → line.kind ≡ Refused expected → line.bytes.now ≡ bytes → error ≢ OutOfMemory → S (line ∷ []))
-    → Walks (λ ls. ⊥) (IsRefusal depth label expected bytes error) old bytes new r → Walks P S old bytes new r
-refused_as P S depth label expected error old new bytes r f w =
-    walks_as (λ ls. ⊥) P (IsRefusal depth label expected bytes error) S (λ a q. absurd q) (λ a q. subst S (sym q.4) (f q.0 q.1 q.2 q.3 q.5)) old new bytes r w
+    → ((line : Line) → IsAt depth label line → line.kind ≡ Refused expected → line.bytes.now ≡ bytes → error ≢ OutOfMemory → Refuses most depth label s (line ∷ []))
+    → Walks (λ ls. ⊥) (IsRefusal depth label expected bytes error) old bytes new r → WalksValue most depth label s old bytes new r
+refused_as most depth label s expected error old new bytes r f w =
+    walks_as (λ ls. ⊥) (Explains most depth label s) (IsRefusal depth label expected bytes error) (Refuses most depth label s) (λ a q. absurd q)
+    (λ a q. subst (Refuses most depth label s) (sym q.4) (f q.0 q.1 q.2 q.3 q.5)) old new bytes r w
 
 -- A line is added for a front.
 pub pushed : (P : List Line → Type 0) (line : Line) (old new : List Line) (bytes front rest : List ℕ) → P (line ∷ []) → new ≡ old ++ line ∷ []
@@ -61,21 +62,35 @@ pub pushed : (P : List Line → Type 0) (line : Line) (old new : List Line) (byt
 pushed P line old new bytes front rest p is seen e =
     (line ∷ [], p, is, e ∙ ap (λ q. q ++ rest) (sym seen ∙ sym (append-nil line.bytes.now)))
 
--- A line is added for a front, and a walk goes on after it.
-pub pushed_on : (Q R T S : List Line → Type 0) (line : Line) (old mid new : List Line) (bytes front rest : List ℕ) (r : Result (Bor (List ℕ)) Error)
-    → ((b : List Line) → Q b → R (line ∷ b)) → ((b : List Line) → T b → S (line ∷ b)) → mid ≡ old ++ line ∷ [] → line.bytes.now ≡ front → bytes ≡ front ++ rest
-    → Walks Q T mid rest new r → Walks R S old bytes new r
-pushed_on Q R T S line old mid new bytes front rest r joins stops is shown e w =
-    walks_on (λ ls. ls ≡ line ∷ []) Q R T S (λ a b p q. subst (λ ls. R (ls ++ b)) (sym p) (joins b q)) (λ a b p q. subst (λ ls. S (ls ++ b)) (sym p) (stops b q))
-    old mid new bytes rest r (pushed (λ ls. ls ≡ line ∷ []) line old mid bytes front rest refl is shown e) w
+-- Lines are added, and a walk goes on after them.
+goes_on : (Q R T S : List Line → Type 0) (head old mid new : List Line) (bytes rest : List ℕ) (r : Result (Bor (List ℕ)) Error)
+    → ((b : List Line) → Q b → R (head ++ b)) → ((b : List Line) → T b → S (head ++ b)) → Adds (λ ls. ls ≡ head) old bytes mid rest → Walks Q T mid rest new r
+    → Walks R S old bytes new r
+goes_on Q R T S head old mid new bytes rest r joins stops a w =
+    walks_on (λ ls. ls ≡ head) Q R T S (λ a b p q. subst (λ ls. R (ls ++ b)) (sym p) (joins b q)) (λ a b p q. subst (λ ls. S (ls ++ b)) (sym p) (stops b q))
+    old mid new bytes rest r a w
 
--- What opens the parts of a value is added, and a walk goes on after it.
+-- A line of a value is added for a front, and a walk goes on after it.
+pub pushed_on : (most depth : ℕ) (label : PlainLabel) (s : Schema) (Q T : List Line → Type 0) (line : Line) (old mid new : List Line) (bytes front rest : List ℕ)
+    (r : Result (Bor (List ℕ)) Error) → ((b : List Line) → Q b → Explains most depth label s (line ∷ b)) → ((b : List Line) → T b → Refuses most depth label s (line ∷ b))
+    → mid ≡ old ++ line ∷ [] → line.bytes.now ≡ front → bytes ≡ front ++ rest → Walks Q T mid rest new r → WalksValue most depth label s old bytes new r
+pushed_on most depth label s Q T line old mid new bytes front rest r joins stops is shown e w =
+    goes_on Q (Explains most depth label s) T (Refuses most depth label s) (line ∷ []) old mid new bytes rest r joins stops
+    (pushed (λ ls. ls ≡ line ∷ []) line old mid bytes front rest refl is shown e) w
+
+-- What opens parts is added, and a walk goes on after it.
 pub opened_on : (Q R T S : List Line → Type 0) (depth inner : ℕ) (label : PlainLabel) (head old mid new : List Line) (bytes : List ℕ) (r : Result (Bor (List ℕ)) Error)
     → Opens depth label inner head → ((b : List Line) → Q b → R (head ++ b)) → ((b : List Line) → T b → S (head ++ b)) → mid ≡ old ++ head → Walks Q T mid bytes new r
     → Walks R S old bytes new r
 opened_on Q R T S depth inner label head old mid new bytes r o joins stops is w =
-    walks_on (λ ls. ls ≡ head) Q R T S (λ a b p q. subst (λ ls. R (ls ++ b)) (sym p) (joins b q)) (λ a b p q. subst (λ ls. S (ls ++ b)) (sym p) (stops b q))
-    old mid new bytes bytes r (head, refl, is, ap (λ p. p ++ bytes) (sym (opens_nothing depth label inner head o))) w
+    goes_on Q R T S head old mid new bytes bytes r joins stops (head, refl, is, ap (λ p. p ++ bytes) (sym (opens_nothing depth label inner head o))) w
+
+pub row_on : (most depth inner : ℕ) (label : PlainLabel) (row : Row) (head old mid new : List Line) (bytes : List ℕ) (r : Result (Bor (List ℕ)) Error)
+    → Opens depth label inner head → mid ≡ old ++ head → Walks (ExplainsParts most inner row) (RefusesParts most inner row) mid bytes new r
+    → Walks (ExplainsRow most depth label row) (RefusesRow most depth label row) old bytes new r
+row_on most depth inner label row head old mid new bytes r o is w =
+    opened_on (ExplainsParts most inner row) (ExplainsRow most depth label row) (RefusesParts most inner row) (RefusesRow most depth label row) depth inner label head
+    old mid new bytes r o (λ b q. of_row depth label row inner head b o q) (λ b q. in_row depth label row inner head b o q) is w
 
 -- ---- what has parts, and items
 

@@ -13,7 +13,7 @@ use Rattle.postcard_value.proofs.FrontLemmas.{each_more, parts_more}
 use Rattle.postcard_explain.specs.declared.line.Line.{Line}
 use Rattle.postcard_explain.specs.Explained.{bytes_of, Opens, Explains, ExplainsElements, ExplainsItem, ExplainsParts, ExplainsRow}
 use Rattle.postcard_explain.specs.Explained as rule
-use Rattle.postcard_explain.specs.Parts.{PlainLabel, Row, schemas_of, Item, item_type}
+use Rattle.postcard_explain.specs.Parts.{PlainLabel, whole, at_field, at_part, at_element, Row, schemas_of, Item, item_type}
 use Rattle.postcard_explain.proofs.PartLemmas.{schemas_join, parts_type, items_type}
 
 -- ---- bytes of lines
@@ -22,10 +22,15 @@ pub bytes_join : (xs ys : List Line) → bytes_of (xs ++ ys) ≡ bytes_of xs ++ 
 bytes_join [] ys = refl
 bytes_join (x ∷ xs) ys = ap (λ p. x.bytes.now ++ p) (bytes_join xs ys) ∙ sym (append_assoc x.bytes.now (bytes_of xs) (bytes_of ys))
 
+line_nothing : (line : Line) (lines : List Line) → line.bytes.now ≡ [] → lines ≡ line ∷ [] → bytes_of lines ≡ []
+line_nothing line lines none is = rw (is, none) refl
+
 -- What opens the parts of a value has no bytes.
 pub opens_nothing : (depth : ℕ) (label : PlainLabel) (inner : ℕ) (lines : List Line) → Opens depth label inner lines → bytes_of lines ≡ []
-opens_nothing depth label inner lines (inl h) = rw h.2 refl
-opens_nothing depth label inner lines (inr h) = rw (h.5, h.3) refl
+opens_nothing depth whole inner lines h = rw h.1 refl
+opens_nothing depth (at_field name) inner lines h = line_nothing h.0 lines h.3 h.5
+opens_nothing depth (at_part i) inner lines h = line_nothing h.0 lines h.3 h.5
+opens_nothing depth (at_element i) inner lines h = line_nothing h.0 lines h.3 h.5
 
 -- ---- rows of values
 

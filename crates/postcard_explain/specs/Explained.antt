@@ -42,9 +42,9 @@ IsIndex _ j name = ⊥
 -- The lines before the parts of a tuple, a struct, an array or an entry, and the depth of the parts: none for the whole value, else one
 -- without bytes.
 abbrev pub Opens : ℕ → PlainLabel → ℕ → List Line → Type 0
+Opens depth whole inner lines = (inner ≡ depth) × (lines ≡ [])
 Opens depth label inner lines =
-    ((label ≡ whole) × (inner ≡ depth) × (lines ≡ []))
-    ⊎ ((line : Line) × IsAt depth label line × (line.kind ≡ Parts) × (line.bytes.now ≡ []) × (inner ≡ deeper depth) × (lines ≡ line ∷ []))
+    (line : Line) × IsAt depth label line × (line.kind ≡ Parts) × (line.bytes.now ≡ []) × (inner ≡ deeper depth) × (lines ≡ line ∷ [])
 
 mutual
   -- The lines explain a value of the schema at this depth and with this label, where of one list at most `most` elements have lines

@@ -1,7 +1,7 @@
 pub mod Parts
 pub mod Explained
 pub mod RefusedLines
-pub mod Adds
+pub mod Walking
 -- The words that clauses of this crate cite, under one path.
 pub use Rattle.std.specs.declared.alloc.Global.{Global}
 pub use Rattle.postcard_de.specs.Reads.{IsReadError}
@@ -18,6 +18,6 @@ pub use Rattle.postcard_explain.specs.Parts.{HasItems, item_of, item_type, parts
 pub use Rattle.postcard_explain.specs.Parts.{at_element, whole}
 pub use Rattle.postcard_explain.specs.RefusedLines.{IsExplainedUpTo, IsRefusal, RefusesElements}
 pub use Rattle.postcard_explain.specs.RefusedLines.{RefusesItem, RefusesMore, RefusesRow}
-pub use Rattle.postcard_explain.specs.Adds.{Walks, WalksValue}
+pub use Rattle.postcard_explain.specs.Walking.{Walks, WalksValue}
 pub use Rattle.postcard_explain.specs.declared.line.Label.TheVariants.{Whole}
 pub use Rattle.postcard_explain.specs.declared.line.Line.{Line}

@@ -1,4 +1,4 @@
-use Rattle.std.proofs.Common.{◌≡◌, ◌+◌, ◌-◌, ◌<◌, ◌≤◌, [], ◌∷◌, ◌++◌, length, take, take_all, get_or, refl, sym, ap, subst, ◌∙◌, inl, inr, arith, append_assoc, append-nil}
+use Rattle.std.proofs.Common.{◌≡◌, ◌+◌, ◌-◌, ◌<◌, ◌≤◌, [], ◌∷◌, ◌++◌, length, take, take_all, get_or, refl, sym, ap, subst, ◌∙◌, Ok, Err, inl, inr, arith, append_assoc, append-nil}
 use Rattle.std.proofs.lemmas.Grind.{common_steps}
 use Rattle.std.proofs.lemmas.List.{take_more}
 use Rattle.std.specs.Prelude.{min, string_bytes}
@@ -9,12 +9,12 @@ use Rattle.postcard_de_nodes.specs.ReadLemmas.{is_refusal}
 use Rattle.postcard_value.specs.Fronts.{SpellsEach}
 use Rattle.postcard_value.proofs.FrontLemmas.{each_more, number_read}
 use Rattle.postcard_explain.specs.declared.line.Expected.TheVariants as expectations
-use Rattle.postcard_explain.specs.Explained.{bytes_of, Explains, ExplainsElements, ExplainsItem, ExplainsMore, ExplainsParts, ExplainsRow, IsMore, of_absent, of_array, of_list, of_present, of_row, of_variant, no_elements, no_parts, one_element, one_part}
+use Rattle.postcard_explain.specs.Explained.{bytes_of, Explains, ExplainsElements, ExplainsItem, ExplainsMore, ExplainsParts, IsMore, of_absent, of_array, of_list, of_present, of_variant, no_elements, no_parts, one_element, one_part}
 use Rattle.postcard_explain.specs.Parts.{at_element, at_field, item_of, item_type, named, numbered, parts_of, plain_label, value}
-use Rattle.postcard_explain.specs.RefusedLines.{Refuses, RefusesElements, RefusesItem, RefusesMore, RefusesParts, RefusesRow, no_count, no_flag, no_index, in_array, in_element, in_list, in_part, in_present, in_row, in_variant}
-use Rattle.postcard_explain.proofs.LineLemmas.{adds_both, stops_on, walks_on, refused_as, pushed, pushed_on, opened_on, row_as, value_as, entry_as, more_bytes, more_explained, elements_more, refuses_more}
+use Rattle.postcard_explain.specs.RefusedLines.{Refuses, RefusesElements, RefusesItem, RefusesMore, RefusesParts, no_count, no_flag, no_index, in_array, in_element, in_list, in_part, in_present, in_variant}
+use Rattle.postcard_explain.proofs.LineLemmas.{adds_both, stops_on, walks_on, refused_as, pushed, pushed_on, opened_on, row_as, row_on, value_as, entry_as, more_bytes, more_explained, elements_more, refuses_more}
 use Rattle.postcard_explain.proofs.PartLemmas.{length_named, named_at, part_depth, parts_depth, row_depth, variants_depth}
-use Rattle.postcard_explain.proofs.Spelled.{item_spelled, opens_nothing}
+use Rattle.postcard_explain.proofs.Spelled.{item_spelled}
 use Rattle.postcard_explain.proofs.part.+explain.Goals as goal
 
 -- ---- each kind of type
@@ -92,8 +92,7 @@ explain_variant-explain_part-requires t c =
 
 pub explain_option-returns-in_default : goal.explain_option-returns-in_default
 explain_option-returns-in_default t c = λ s held is inner.
-    refused_as (Explains c.args.most c.args.place.depth (plain_label c.args.place.label) s) (Refuses c.args.most c.args.place.depth (plain_label c.args.place.label) s)
-    c.args.place.depth (plain_label c.args.place.label) expectations.Option _ _ _ c.args.bytes.now c.refuse.result
+    refused_as c.args.most c.args.place.depth (plain_label c.args.place.label) s expectations.Option _ _ _ c.args.bytes.now c.refuse.result
     (λ line at kind shown other. no_flag _ _ s line held is at kind (λ rest. (
       λ cut. let some : length (0 ∷ rest) ≡ 0 = sym (ap length (sym shown ∙ cut)) ∙ c.in_default.ensures.cases in grind (arith, common_steps, some),
       λ cut. let some : length (1 ∷ rest) ≡ 0 = sym (ap length (sym shown ∙ cut)) ∙ c.in_default.ensures.cases in grind (arith, common_steps, some),
@@ -102,8 +101,7 @@ explain_option-returns-in_default t c = λ s held is inner.
 
 pub explain_option-returns-in_default-first : goal.explain_option-returns-in_default-first
 explain_option-returns-in_default-first t c = λ s held is inner.
-    refused_as (Explains c.args.most c.args.place.depth (plain_label c.args.place.label) s) (Refuses c.args.most c.args.place.depth (plain_label c.args.place.label) s)
-    c.args.place.depth (plain_label c.args.place.label) expectations.Option _ _ _ c.args.bytes.now c.refuse-in_default-first.result
+    refused_as c.args.most c.args.place.depth (plain_label c.args.place.label) s expectations.Option _ _ _ c.args.bytes.now c.refuse-in_default-first.result
     (λ line at kind shown other. no_flag _ _ s line held is at kind (λ rest. (
       λ cut. let same = sym shown ∙ cut in grind (arith, common_steps, c.in_default-first, c.in-Some.ensures.cases.0, same),
       λ cut. let same = sym shown ∙ cut in grind (arith, common_steps, c.in_default-first, c.in-Some.ensures.cases.0, same),
@@ -127,7 +125,7 @@ explain_option-returns-in_ok-push-in-1 t c = λ s held is inner.
     let cut : c.args.bytes.now ≡ (1 ∷ []) ++ c.in-Some.rest.now = c.in-Some.ensures.cases.0 ∙ ap (λ b. b ∷ c.in-Some.rest.now) c.in-1.is in
     let shown = p.4 ∙ c.front_of-in-1.ensures (1 ∷ []) cut in
     let inside = c.inside.result in
-    pushed_on (Explains m inside.depth (plain_label inside.label) x) (Explains m d b s) (Refuses m inside.depth (plain_label inside.label) x) (Refuses m d b s)
+    pushed_on m d b s (Explains m inside.depth (plain_label inside.label) x) (Refuses m inside.depth (plain_label inside.label) x)
     p.0 _ _ _ _ (1 ∷ []) _ c.explain_part.result
     (λ ls q. of_present _ _ s p.0 held ls is p.2 p.3 shown (rw (inner, ← c.inside.ensures.depth) (rw c.inside.ensures.label at q)))
     (λ ls q. in_present _ _ s p.0 held ls is p.2 p.3 shown (rw (inner, ← c.inside.ensures.depth) (rw c.inside.ensures.label at q)))
@@ -147,7 +145,7 @@ explain_list-returns-in_ok-push-in-Ok t c = λ s has.
     let p = c.in_ok-push-in-Ok.ensures.added in
     let n = number_read 64 r.tree k r.front r.is_read r.has r.is_spelled in
     let shown = p.4 ∙ c.front_of.ensures r.front r.joins in
-    pushed_on (ExplainsElements m own item k) (Explains m d b s) (RefusesElements m own item k) (Refuses m d b s)
+    pushed_on m d b s (ExplainsElements m own item k) (RefusesElements m own item k)
     p.0 _ _ _ _ r.front _ c.explain_elements.result
     (λ ls q. of_list _ _ s p.0 item k ls has p.2 p.3 n.0 (rw shown n.1) (rw (← c.inside.ensures.depth) q))
     (λ ls q. in_list _ _ s p.0 item k ls has p.2 p.3 n.0 (rw shown n.1) (rw (← c.inside.ensures.depth) q))
@@ -155,8 +153,7 @@ explain_list-returns-in_ok-push-in-Ok t c = λ s has.
 
 pub explain_list-returns-in-Err : goal.explain_list-returns-in-Err
 explain_list-returns-in-Err t c = λ s has.
-    refused_as (Explains c.args.most c.args.place.depth (plain_label c.args.place.label) s) (Refuses c.args.most c.args.place.depth (plain_label c.args.place.label) s)
-    c.args.place.depth (plain_label c.args.place.label) expectations.Count c.in-Err.error _ _ c.args.bytes.now c.refuse.result
+    refused_as c.args.most c.args.place.depth (plain_label c.args.place.label) s expectations.Count c.in-Err.error _ _ c.args.bytes.now c.refuse.result
     (λ line at kind shown other. no_count _ _ s line _ has at kind
     (λ n front rest low num cut. (c.in-Err.ensures.accepts (Num 64 n) front rest (n, refl, low) num (sym shown ∙ cut)).1))
     c.refuse.ensures
@@ -274,8 +271,7 @@ explain_row-returns-in_err-rest t c =
     let stopped = stops_on (ExplainsParts m own (take i row)) (Refuses m own name x) (RefusesParts m own row)
     (λ p q h j. in_part own row i name x p q low c.part.ensures h j) _ _ _ _ _ e c.loop-i.invariant c.in_err-rest.ensures in
     rw (is_refusal c.from_residual-in_err-rest.result e c.from_residual-in_err-rest.ensures.1)
-    (stops_on (λ ls. ls ≡ o.0) (RefusesParts m own row) (RefusesRow m d b row) (λ p q h j. subst (λ ls. RefusesRow m d b row (ls ++ q)) (sym h) (in_row d b row own o.0 q o.1 j))
-    _ _ _ _ _ e (o.0, refl, o.2, ap (λ p. p ++ c.args.bytes.now) (sym (opens_nothing d b own o.0 o.1))) stopped)
+    (row_on m d own b row o.0 _ _ _ c.args.bytes.now (Err e) o.1 o.2 stopped)
 
 pub explain_row-loop-i-preserved : goal.explain_row-loop-i-preserved
 explain_row-loop-i-preserved t c =
@@ -299,9 +295,7 @@ explain_row-returns t c =
     let row = parts_of c.args.row in
     let o = c.in_ok-depth.ensures.added in
     let all : take c.loop-i.i row ≡ row = take_all c.loop-i.i row (omega (arith, c.len-i-end.ensures)) in
-    adds_both (λ ls. ls ≡ o.0) (ExplainsParts m own row) (ExplainsRow m d b row)
-    (λ p q h j. subst (λ ls. ExplainsRow m d b row (ls ++ q)) (sym h) (of_row d b row own o.0 q o.1 j)) _ _ _ _ _ _
-    (o.0, refl, o.2, ap (λ p. p ++ c.args.bytes.now) (sym (opens_nothing d b own o.0 o.1))) (rw all at c.loop-i.invariant)
+    row_on m d own b row o.0 _ _ _ c.args.bytes.now (Ok c.loop-i.rest) o.1 o.2 (rw all at c.loop-i.invariant)
 
 -- ---- enums
 
@@ -321,7 +315,7 @@ explain_variant-returns t c = λ s is.
     let inside : i < length c.deref.result.now = grind (arith, common_steps) in
     let low : i < length xs = rw c.deref.ensures.value at inside in
     let found : x ≡ get_or xs i x = rw c.deref.ensures.value at c.in-Some.ensures.lookup.1 in
-    pushed_on (Explains m own.depth (plain_label own.label) x.content) (Explains m d b s) (Refuses m own.depth (plain_label own.label) x.content) (Refuses m d b s)
+    pushed_on m d b s (Explains m own.depth (plain_label own.label) x.content) (Refuses m own.depth (plain_label own.label) x.content)
     p.0 _ _ _ _ r.front _ c.explain_part.result
     (λ ls q. of_variant _ _ s p.0 c.args.variants.now i x ls is p.2 low found (rw p.3 (refl, c.deref-2.ensures)) n.0 (rw shown n.1)
     (rw (← c.inside.ensures.depth) (rw c.inside.ensures.label at q)))
@@ -331,8 +325,7 @@ explain_variant-returns t c = λ s is.
 
 pub explain_variant-returns-in-Err : goal.explain_variant-returns-in-Err
 explain_variant-returns-in-Err t c = λ s is.
-    refused_as (Explains c.args.most c.args.place.depth (plain_label c.args.place.label) s) (Refuses c.args.most c.args.place.depth (plain_label c.args.place.label) s)
-    c.args.place.depth (plain_label c.args.place.label) expectations.Variant c.in-Err.error _ _ c.args.bytes.now c.refuse.result
+    refused_as c.args.most c.args.place.depth (plain_label c.args.place.label) s expectations.Variant c.in-Err.error _ _ c.args.bytes.now c.refuse.result
     (λ line at kind shown other. no_index _ _ s line c.args.variants.now is at kind
     (λ i front rest low few num cut. (c.in-Err.ensures.accepts (Num 32 i) front rest (i, refl, few) num (sym shown ∙ cut)).1))
     c.refuse.ensures
@@ -340,8 +333,7 @@ explain_variant-returns-in-Err t c = λ s is.
 pub explain_variant-returns-in_default : goal.explain_variant-returns-in_default
 explain_variant-returns-in_default t c = λ s is.
     let outside : length c.args.variants.now.items < c.in-Ok.read.0 + 1 = grind (arith, common_steps) in
-    refused_as (Explains c.args.most c.args.place.depth (plain_label c.args.place.label) s) (Refuses c.args.most c.args.place.depth (plain_label c.args.place.label) s)
-    c.args.place.depth (plain_label c.args.place.label) expectations.Variant _ _ _ c.args.bytes.now c.refuse-in_default.result
+    refused_as c.args.most c.args.place.depth (plain_label c.args.place.label) s expectations.Variant _ _ _ c.args.bytes.now c.refuse-in_default.result
     (λ line at kind shown other. no_index _ _ s line c.args.variants.now is at kind
     (λ i front rest low few num cut.
     let same : Num 32 i ≡ Num 32 c.in-Ok.read.0 = (c.in-Ok.ensures.accepts (Num 32 i) front rest (i, refl, few) num (sym shown ∙ cut)).0 in

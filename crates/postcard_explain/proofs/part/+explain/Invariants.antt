@@ -6,7 +6,7 @@ use Rattle.postcard_schema.specs.Meaning.{type_of}
 use Rattle.postcard_value.specs.Fronts.{SpellsEach}
 use Rattle.postcard_explain.specs.Explained.{ExplainsElements, ExplainsParts}
 use Rattle.postcard_explain.specs.Parts.{item_of, item_type, named, parts_of}
-use Rattle.postcard_explain.specs.Adds.{Adds}
+use Rattle.postcard_explain.specs.Walking.{Adds}
 use Rattle.postcard_explain.proofs.PartLemmas.{row_depth}
 use Rattle.postcard_explain.proofs.part.+explain.Given as goal
 

@@ -1,8 +1,8 @@
 use Rattle.std.proofs.Common.{refl, sym, ◌∙◌, append-nil}
 use Rattle.postcard_explain.specs.declared.line.Expected.TheVariants as expectations
-use Rattle.postcard_explain.specs.Explained.{Explains, of_leaf}
+use Rattle.postcard_explain.specs.Explained.{of_leaf}
 use Rattle.postcard_explain.specs.Parts.{plain_label}
-use Rattle.postcard_explain.specs.RefusedLines.{Refuses, no_leaf}
+use Rattle.postcard_explain.specs.RefusedLines.{no_leaf}
 use Rattle.postcard_explain.proofs.LineLemmas.{pushed, refused_as}
 use Rattle.postcard_explain.proofs.part.explain_leaf.Goals as goal
 
@@ -20,7 +20,7 @@ pub returns-in-Err : goal.returns-in-Err
 returns-in-Err c = λ most is.
     let s = c.args.schema.now in
     let b = plain_label c.args.place.label in
-    refused_as (Explains most c.args.place.depth b s) (Refuses most c.args.place.depth b s) c.args.place.depth b (expectations.Leaf c.args.leaf) c.in-Err.error _ _ c.args.bytes.now
+    refused_as most c.args.place.depth b s (expectations.Leaf c.args.leaf) c.in-Err.error _ _ c.args.bytes.now
     c.refuse.result
     (λ line at kind shown other. no_leaf _ _ s line c.args.leaf is at kind (λ front rest cut f. other (c.in-Err.ensures.accepts f.0 front rest f.1 f.2 (sym shown ∙ cut))))
     c.refuse.ensures
