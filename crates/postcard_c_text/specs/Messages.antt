@@ -5,15 +5,17 @@ use Rattle.postcard_wire.specs.declared.error.Error.{Error}
 use Rattle.postcard_shape.specs.Shape.{never}
 use Rattle.postcard_de.specs.Reads.{IsReadError}
 use Rattle.postcard_de.specs.Front.{ReadsFront}
-use Rattle.postcard_dyn_schema.specs.declared.schema.Schema.{Schema}
-use Rattle.postcard_dyn_schema.specs.Grammar.{IsExpression}
-use Rattle.postcard_dyn_schema.specs.Meaning.{type_of, reads}
-use Rattle.postcard_dyn.specs.Explained.{HasNoFront}
-use Rattle.postcard_dyn.specs.Refused.{IsRefusedAt}
-use Rattle.postcard_dyn.specs.Tree.{tree, IsTree}
-use Rattle.postcard_dyn.specs.declared.value.Value.{Value}
-use Rattle.postcard_dyn_text.specs.Shown.{layout_of, text}
-use Rattle.postcard_dyn_text.specs.Spelled.{SpellsValue}
+use Rattle.postcard_schema.specs.declared.path.Step.{Step}
+use Rattle.postcard_schema.specs.declared.schema.Schema.{Schema}
+use Rattle.postcard_schema_text.specs.Grammar.{IsExpression}
+use Rattle.postcard_schema.specs.Meaning.{type_of, reads}
+use Rattle.postcard_value.specs.Fronts.{HasNoFront}
+use Rattle.postcard_value.specs.Refused.{IsRefusedAt}
+use Rattle.postcard_value.specs.Tree.{tree, IsTree}
+use Rattle.postcard_value.specs.declared.value.Value.{Value}
+use Rattle.postcard_value_text.specs.Layout.{layout_of}
+use Rattle.postcard_value_text.specs.Shown.{text}
+use Rattle.postcard_value_text.specs.Spelled.{SpellsValue}
 use Rattle.postcard_c_status.specs.Numbers.{number_of}
 
 -- The first `taken` of the bytes spell a value of the type that the expression says.
@@ -27,7 +29,7 @@ pub record HasMessage (expression bytes : List ℕ) (taken : ℕ) : Type 0 where
 -- of reading.
 pub record IsRefused (schema : Schema) (bytes : List ℕ) (place status : ℕ) : Type 0 where
   pub none : HasNoFront schema bytes
-  pub path : List ℕ
+  pub path : List Step
   pub at : IsRefusedAt schema bytes path place
   pub error : Error
   pub named : IsReadError never error

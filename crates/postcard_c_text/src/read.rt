@@ -5,7 +5,9 @@ ghost use Rattle.postcard_c_text.specs.{IsExpression, IsRefused, IsTree, ReadsFr
 ghost use Rattle.postcard_c_text.specs.{reads, type_of};
 
 use postcard_c_status::{BAD_TYPE, OUT_OF_MEMORY, status_of};
-use postcard_dyn::{Problem, Schema, Value, parse, refused_at, take_from_bytes};
+use postcard_schema::Schema;
+use postcard_schema_text::{Problem, parse};
+use postcard_value::{Value, refused_at, take_from_bytes};
 use postcard_wire::Error;
 use std::alloc::Global;
 

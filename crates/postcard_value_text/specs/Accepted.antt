@@ -57,9 +57,9 @@ ReadsAs P r left after = MatchResult r (λ v. P v × (left ≡ after)) (λ stop.
 abbrev pub Accepts : (Tree → Type 0) → Speller → List ℕ → Result Value Stop → List ℕ → Type 0
 Accepts R S text r left = (t : Tree) (after : List ℕ) → R t → TakesPhrase (S t) text after → FollowsValue after → ReadsAs (IsTree t) r left after
 
--- The answer r of a call that reads from the start of the text, and leaves `left`. What it reads is of R, and the text before `left` spells
--- it. If the names tell values apart (N), each front of the text that spells one of R, and that may stand there, is read as it and taken; or
--- memory is lacking.
+-- The answer r of a call that reads from the start of the text, and leaves `left`. What it reads is of R, and the text before `left` spells it.
+-- If N holds, which says that names tell values apart, each front that spells one of R is read as that one, and just that front is taken. It
+-- needs that what follows the front may follow a value, and that memory suffices.
 pub record ReadsText {T V : Type 0} (see : V → T) (N : Type 0) (R : T → Type 0) (S : T → List ℕ → Type 0) (text : List ℕ) (r : Result V Stop) (left : List ℕ) : Type 0 where
   pub value : IfOk r (λ v. R (see v))
   pub spelled : IfOk r (λ v. TakesPhrase (S (see v)) text left)
