@@ -1,4 +1,3 @@
 pub mod Rows
-pub mod LeafJson
 pub mod Escapes
 pub mod EscapedTokens

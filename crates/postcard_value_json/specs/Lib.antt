@@ -9,9 +9,9 @@ pub use Rattle.serde_json.specs.Read.{max_depth, read}
 pub use Rattle.serde_json.specs.View.{number_view, view}
 pub use Rattle.serde_json.specs.Written.{IsInOrder, compact_text, has_float}
 pub use Rattle.std.specs.Char.{digit_char, encode_utf8}
-pub use Rattle.postcard_wire.specs.Tree.{Byte, Seq, trees}
+pub use Rattle.hex.specs.Hex.{encode_lower}
+pub use Rattle.postcard_wire.specs.Tree.{trees}
 pub use Rattle.postcard_schema.specs.Leaves.{float_size, is_signed, size_of}
-pub use Rattle.postcard_schema.specs.declared.leaf.Leaf.TheVariants.{Bytes}
 pub use Rattle.postcard_value.specs.Tree.{tree}
 pub use Rattle.postcard_value_text.specs.Floats.{format_of}
 pub use Rattle.postcard_value_text.specs.Layout.{fields_of, layout_of, layouts_of}
