@@ -1,0 +1,4 @@
+pub mod Rows
+pub mod LeafJson
+pub mod Escapes
+pub mod EscapedTokens
