@@ -1,5 +1,7 @@
 -- What is left of a text is its end.
-use Rattle.std.proofs.Common.{◌≡◌, ℕ, Bool, true, false, cond, List, [], ◌∷◌, ◌++◌, refl, sym, ap, subst, ◌∙◌}
+use Rattle.std.proofs.Common.{◌≡◌, ℕ, Bool, true, false, cond, List, [], ◌∷◌, ◌++◌, length, refl, sym, ap, subst, ◌∙◌}
+use Rattle.std.specs.Bool.{◌==◌}
+use Rattle.std.proofs.Math.Dec.{eqb-suc-zero}
 use Rattle.std.proofs.lemmas.List.{append_assoc}
 use Rattle.std.specs.Char.{is_ascii_whitespace}
 use Rattle.std.specs.Str.{IsTrimAsciiStart}
@@ -33,3 +35,8 @@ blanks_off s r trim = subst (IsEndOf s) (sym (trim_is s r trim)) (unblank_end s)
 pub sign_off : (taken : Bool) (sign : ℕ) (old new : List ℕ) → (taken ≡ true → TakesPhrase (IsSign sign) old new) → (taken ≡ false → new ≡ old) → IsEndOf old new
 sign_off true sign old new take left = let k = take refl in (k.0, k.2)
 sign_off false sign old new take left = whole_end old new (left refl)
+
+-- No element is left.
+pub none_left : {A : Type 0} (xs : List A) → (length xs == 0) ≡ true → xs ≡ []
+none_left [] e = refl
+none_left (x ∷ xs) e = cc (sym (eqb-suc-zero (length xs)) ∙ e)

@@ -1,8 +1,6 @@
 -- Lemmas on values without parts that are read from JSON.
 use Rattle.std.proofs.Common.{◌≡◌, ℕ, ℤ, ◌<◌, ◌^◌, Bool, true, false, List, [], ◌∷◌, ◌++◌, map, length, refl, sym, ap, subst, ◌∙◌, append-nil}
-use Rattle.std.specs.Bool.{◌==◌}
 use Rattle.std.specs.Char.{encode_utf8, IsScalar}
-use Rattle.std.proofs.Math.Dec.{eqb-suc-zero}
 use Rattle.hex.specs.Hex.{decode_of}
 use Rattle.std.specs.Prelude.{Ok}
 use Rattle.postcard_wire.specs.Tree.{Tree, Byte, Boolean, Text, trees}
@@ -27,11 +25,6 @@ taken_whole P text rest (front, is, whole) none = subst P (sym (whole ∙ ap (λ
 
 pub whole_taken : (P : List ℕ → Type 0) (text : List ℕ) → P text → TakesPhrase P text []
 whole_taken P text is = (text, is, sym (append-nil text))
-
--- No element is left.
-pub none_left : {A : Type 0} (xs : List A) → (length xs == 0) ≡ true → xs ≡ []
-none_left [] e = refl
-none_left (x ∷ xs) e = cc (sym (eqb-suc-zero (length xs)) ∙ e)
 
 no_sign : (sign : ℕ) (after : List ℕ) → TakesPhrase (IsSign sign) [] after → ⊥
 no_sign sign after ([], ([], phrase, blank, is, e), whole) = cc (e ∙ is)

@@ -118,6 +118,14 @@ pub record Finds (name key v found next : List ℕ) (is : Bool) : Type 0 where
   pub here : is ≡ true → next ≡ v
   pub kept : is ≡ false → next ≡ found
 
+pub finds_here : (name key v found next : List ℕ) (is : Bool) → (is ≡ true → read key ≡ Some (string name)) → (is ≡ false → IsUtf8 key → read key ≡ Some (string name) → ⊥)
+    → is ≡ true → next ≡ v → Finds name key v found next is
+finds_here name key v found next is named other known same = record { named = named; other = other; here = λ e. same; kept = λ other_one. absurd (true≢false (sym known ∙ other_one)) }
+
+pub finds_kept : (name key v found next : List ℕ) (is : Bool) → (is ≡ true → read key ≡ Some (string name)) → (is ≡ false → IsUtf8 key → read key ≡ Some (string name) → ⊥)
+    → is ≡ false → next ≡ found → Finds name key v found next is
+finds_kept name key v found next is named other other_one same = record { named = named; other = other; here = λ known. absurd (true≢false (sym known ∙ other_one)); kept = λ e. same }
+
 found_here : (name key v found next : List ℕ) (is : Bool) → Finds name key v found next is → IsNameText name key → next ≡ v
 found_here name key v found next true f h = f.here refl
 found_here name key v found next false f h = absurd (f.other refl h.1 h.2)

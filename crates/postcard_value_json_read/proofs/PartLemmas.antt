@@ -1,6 +1,6 @@
 -- One item or member off the front of a text.
-use Rattle.std.proofs.Common.{◌≡◌, ℕ, suc, Bool, true, false, List, [], ◌∷◌, ◌++◌, refl, sym, ap, subst, ◌∙◌, inl, inr, true≢false}
-use Rattle.std.specs.Bool.{◌==◌, ◌||◌}
+use Rattle.std.proofs.Common.{◌≡◌, ℕ, zero, suc, ◌<◌, map, length, drop, get_or, arith, Bool, true, false, List, [], ◌∷◌, ◌++◌, refl, sym, ap, subst, ◌∙◌, inl, inr, true≢false}
+use Rattle.std.specs.Prelude.{◌==◌, ◌||◌}
 use Rattle.std.proofs.lemmas.Bool.{eqb-true, or_cases}
 use Rattle.std.proofs.lemmas.List.{append_assoc}
 use Rattle.std.specs.Char.{is_ascii_whitespace}
@@ -8,7 +8,9 @@ use Rattle.std.specs.Str.{IsTrimAsciiStart}
 use Rattle.postcard_schema_text.specs.Text.{unblank, AreBlank, Led, Then, TakesPhrase, IsSign}
 use Rattle.postcard_schema_text.specs.FrontLemmas.{pass_head, takes_split, trim_is, unblank_black, unblank_more}
 use Rattle.postcard_value_text.proofs.Fronts.{one_rest}
-use Rattle.postcard_value_json_read.specs.Parts.{AreValues}
+use Rattle.postcard_schema.specs.Paths.{plain_step}
+use Rattle.postcard_schema.specs.declared.path.Step.{Step}
+use Rattle.postcard_value_json_read.specs.Parts.{AreValues, Lead, LeadsTo}
 use Rattle.postcard_value_json_read.specs.Values.{EndsScalar, IsValue, ends_scalar, is_closing, is_opening}
 
 -- ---- blanks
@@ -89,3 +91,12 @@ item_less n left items after next taken h skips take none =
     let same : after ≡ a = skips v a is (sign_ends 44 a b refl sign) whole in
     let got = sign_taken taken 44 after next b refl take none (subst (λ t. TakesPhrase (IsSign 44) t b) (sym same) sign) in
     subst (λ t. TakesPhrase (AreValues n) t items) (sym got.1) others
+
+-- ---- steps
+
+-- One step more of a path.
+pub lead_step : (d : Step) (ss : List Step) (i : ℕ) (text next rest : List ℕ) → i < length ss → Lead (map plain_step (drop i ss)) text rest
+    → ((part : List ℕ) → LeadsTo (plain_step (get_or ss i d)) text part → next ≡ part) → Lead (map plain_step (drop (suc i) ss)) next rest
+lead_step d [] i text next rest low h cut = absurd (omega (arith, low))
+lead_step d (s ∷ ss) zero text next rest low (part, step, more) cut = subst (λ t. Lead (map plain_step ss) t rest) (sym (cut part step)) more
+lead_step d (s ∷ ss) (suc i) text next rest low h cut = lead_step d ss i text next rest (omega (arith, low)) h cut

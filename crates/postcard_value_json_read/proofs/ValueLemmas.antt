@@ -7,6 +7,13 @@ pub quoted_on : (b : ℕ) (left more rest : List ℕ) → AreQuoted false more �
 quoted_on b left [] rest h e no_quote = absurd (no_quote cc)
 quoted_on b left (x ∷ xs) rest h e no_quote = let same : x ≡ b = cc in (xs, subst (λ y. AreQuoted (y == 92) xs) same h.1, cc)
 
+pub escaped_on : (b : ℕ) (left more rest : List ℕ) → AreQuoted true more → b ∷ left ≡ more ++ 34 ∷ rest → (next : List ℕ) × AreQuoted false next × (left ≡ next ++ 34 ∷ rest)
+escaped_on b left [] rest h e = absurd h
+escaped_on b left (x ∷ xs) rest h e = (xs, h, cc)
+
+pub quoted_in : (b : ℕ) (left inside rest : List ℕ) → b ∷ left ≡ 34 ∷ (inside ++ 34 ∷ rest) → left ≡ inside ++ 34 ∷ rest
+quoted_in b left inside rest e = cc
+
 pub scalar_here : (b : ℕ) (left more rest : List ℕ) → IsScalar more → b ∷ left ≡ more ++ rest → ends_scalar b ≡ true → b ∷ left ≡ rest
 scalar_here b left [] rest h e end = e
 scalar_here b left (x ∷ xs) rest h e end = let same : b ≡ x = cc in absurd (cc (sym end ∙ ap ends_scalar same ∙ h.0))

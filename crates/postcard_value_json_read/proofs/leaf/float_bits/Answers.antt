@@ -5,7 +5,8 @@ use Rattle.serde_json.specs.Data.{string}
 use Rattle.serde_json.specs.View.{view}
 use Rattle.postcard_value_json_read.specs.Reading.{IsFloatJson}
 use Rattle.postcard_value_json_read.proofs.Forms.{string_is}
-use Rattle.postcard_value_json_read.proofs.Leaves.{taken_whole, whole_taken, none_left, ends_float}
+use Rattle.postcard_value_json_read.proofs.Leaves.{taken_whole, whole_taken, ends_float}
+use Rattle.postcard_value_json_read.proofs.Ends.{none_left}
 use Rattle.postcard_value_json_read.proofs.leaf.float_bits.Goals as goal
 
 pub returns-in_default-read_float : goal.returns-in_default-read_float

@@ -15,7 +15,8 @@ loop-init c =
       item = λ items h.
           let (left, sign, values) = takes_split (IsSign 91) (AreValues c.args.index) text items h in
           let got = sign_taken c.take.result 91 text a left refl c.take.ensures.taken c.take.ensures.none sign in
-          (a, subst (λ t. TakesPhrase (AreValues c.args.index) t items) (sym got.1) values, trim_is a b c.skip_blanks.ensures);
+          let whole : c.args.index - 0 ≡ c.args.index = omega arith in
+          (a, subst (λ k. TakesPhrase (AreValues k) a items) (sym whole) (subst (λ t. TakesPhrase (AreValues c.args.index) t items) (sym got.1) values), trim_is a b c.skip_blanks.ensures);
       end = end_of_end text a b (sign_off c.take.result 91 text a c.take.ensures.taken c.take.ensures.left) (blanks_off a b c.skip_blanks.ensures);
     }
 

@@ -23,7 +23,7 @@ use Rattle.postcard_value_json.specs.Written.{alone, can_be_null}
 use Rattle.postcard_value_json_read.specs.Reading.{AreItems, IsEntryJson, IsJsonOf, pair}
 use Rattle.postcard_value_json_read.specs.Accepted.{AreFieldsReading, ArePartsReading, IsContentReading, IsEntryReading, IsMemberReading, IsOnly, IsReading, Reads}
 use Rattle.postcard_value_json_read.proofs.Forms.{null_is, not_null_is, array_is, no_array}
-use Rattle.postcard_value_json_read.proofs.Leaves.{none_left}
+use Rattle.postcard_value_json_read.proofs.Ends.{none_left}
 use Rattle.postcard_value_json_read.proofs.Answered.{same_items, absent_only, nullable_only, plain_only, nullable_by, plain_by, items_more, items_only, item_at, items_count, list_form, list_only, list_other, array_form, array_only, array_other, passed, boxed, answer_by}
 use Rattle.postcard_value_json_read.proofs.Groups.{distinct_at, entry_only, entry_tree, entry_other, field_at, fields_more, fields_only, key_by, member_from, named_at, pair_view, part_at, parts_more, parts_only, struct_form, struct_only, tuple_form, tuple_only, value_by}
 use Rattle.postcard_value_json_read.proofs.Variants.{content_from, content_to, one_index, other_content, same_content, unit_content, unit_only, variant_by, variant_form, variant_only}
