@@ -18,7 +18,7 @@ pub use Rattle.postcard_wire.specs.Tree.{Present, Tree, trees}
 pub use Rattle.postcard_schema.specs.Leaves.{is_signed}
 pub use Rattle.postcard_schema.specs.Meaning.{contents, entry_of, leaf as leaf_type, reads, type_of}
 pub use Rattle.postcard_schema.specs.Meaning.{types_of}
-pub use Rattle.postcard_schema.specs.Paths.{plain_path, plain_step}
+pub use Rattle.postcard_schema.specs.Paths.{path_text, plain_path, plain_step}
 pub use Rattle.postcard_schema.specs.declared.schema.Named.{Named}
 pub use Rattle.postcard_schema.specs.declared.schema.Schema.{Schema}
 pub use Rattle.postcard_schema_text.specs.Names.{IsNewTo, IsTakenIn}
@@ -33,8 +33,9 @@ pub use Rattle.postcard_value_json_read.specs.Accepted.{Finds, IsContentReading,
 pub use Rattle.postcard_value_json_read.specs.Accepted.{IsJsonOfVariant, IsMemberReading, IsNameIn}
 pub use Rattle.postcard_value_json_read.specs.Accepted.{IsReading, Reads}
 pub use Rattle.postcard_value_json_read.specs.Lines.{AreLines, IsLine}
-pub use Rattle.postcard_value_json_read.specs.Places.{HasFields, IsAt, IsExpected, IsLengthError}
-pub use Rattle.postcard_value_json_read.specs.Places.{IsPlaceAfter, IsPlaceIn, IsWithin}
+pub use Rattle.postcard_value_json_read.specs.Places.{HasFields, HasPath, IsAt, IsErrorIn}
+pub use Rattle.postcard_value_json_read.specs.Places.{IsExpected, IsLengthError, IsPlaceAfter}
+pub use Rattle.postcard_value_json_read.specs.Places.{IsPlaceIn, IsPlaceOf, IsWithin}
 pub use Rattle.postcard_value_json_read.specs.Parts.{IsItemAt, IsMemberAt, IsPartAt, LeadsTo}
 pub use Rattle.postcard_value_json_read.specs.Printed.{colon_after, expected_text, json_error_text}
 pub use Rattle.postcard_value_json_read.specs.Printed.{members_text, text_error_text}

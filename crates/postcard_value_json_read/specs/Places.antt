@@ -1,13 +1,14 @@
 -- The places of errors: their paths in the JSON, and the characters at which they begin in a text.
-use Rattle.std.specs.Prelude.{◌≡◌, ℕ, ◌+◌, ◌≤◌, ◌⊎◌, List, [], ◌∷◌, Some, string_bytes}
+use Rattle.std.specs.Prelude.{◌≡◌, ℕ, ◌+◌, ◌-◌, ◌≤◌, ◌⊎◌, List, [], ◌∷◌, length, take, Some, string_bytes}
 use Rattle.std.specs.List.{All}
-use Rattle.postcard_schema.specs.Paths.{PlainStep, at_name, plain_path}
+use Rattle.postcard_schema.specs.Paths.{PlainStep, at_name, path_text, plain_path}
 use Rattle.postcard_schema.specs.declared.schema.Named.{Named}
 use Rattle.postcard_schema.specs.declared.schema.Schema.{Schema}
 use Rattle.postcard_schema_text.specs.Names.{IsTakenIn}
 use Rattle.postcard_schema_text.specs.Text.{characters}
 use Rattle.serde_json.specs.Data.{Data}
 use Rattle.serde_json.specs.Find.{get}
+use Rattle.postcard_value_json_read.specs.Parts.{IsPartAt}
 use Rattle.postcard_value_json_read.specs.declared.error.Expected.{Expected}
 use Rattle.postcard_value_json_read.specs.declared.error.Expected.TheVariants as places
 use Rattle.postcard_value_json_read.specs.declared.error.JsonError.{JsonError}
@@ -54,3 +55,17 @@ IsPlaceIn text text_errors.OutOfMemory = Unit {0}
 abbrev pub IsPlaceAfter : ℕ → JsonTextError → Type 0
 IsPlaceAfter n (text_errors.NotAValue character path expected) = character ≡ n + 1
 IsPlaceAfter n text_errors.OutOfMemory = Unit {0}
+
+-- The path has this text, and this is expected there, unless memory is lacking.
+abbrev pub HasPath : List ℕ → Expected → JsonTextError → Type 0
+HasPath text expected (text_errors.NotAValue character path what) = (string_bytes path ≡ text) × (what ≡ expected)
+HasPath text expected text_errors.OutOfMemory = Unit {0}
+
+-- The place is that of the part at this path, if the text has it.
+abbrev pub IsPlaceOf : List PlainStep → List ℕ → JsonTextError → Type 0
+IsPlaceOf path text e = (rest : List ℕ) → IsPartAt path text rest → IsPlaceAfter (characters (take (length text - length rest) text)) e
+
+-- The second error is the first one, as that of the text.
+abbrev pub IsErrorIn : List ℕ → JsonError → JsonTextError → Type 0
+IsErrorIn text (NotAValue path expected) e = HasPath (path_text path.steps.items) expected e × IsPlaceOf (plain_path path) text e
+IsErrorIn text OutOfMemory e = e ≡ text_errors.OutOfMemory

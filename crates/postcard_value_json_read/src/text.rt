@@ -1,9 +1,11 @@
 //! Reading a value from a JSON text: [`read_json`].
 
 ghost use Rattle.std.specs.Prelude.{◌≡◌, ◌-◌, Some, IfOk, IfErr, MatchResult, length, take};
-ghost use Rattle.postcard_value_json_read.specs.{Category, HasDistinctNames, IsJsonText, IsMemory};
-ghost use Rattle.postcard_value_json_read.specs.{IsPlaceAfter, IsPlaceIn, Tree, category};
-ghost use Rattle.postcard_value_json_read.specs.{characters, layout_of, reads, text_error_text};
+ghost use Rattle.std.specs.Prelude.{string_bytes};
+ghost use Rattle.postcard_value_json_read.specs.{Category, HasDistinctNames, HasPath, IsErrorIn};
+ghost use Rattle.postcard_value_json_read.specs.{IsJsonText, IsMemory, IsPlaceAfter, IsPlaceIn};
+ghost use Rattle.postcard_value_json_read.specs.{IsPlaceOf, Tree, category, characters, layout_of};
+ghost use Rattle.postcard_value_json_read.specs.{path_text, plain_path, reads, text_error_text};
 ghost use Rattle.postcard_value_json_read.specs.{tree, type_of};
 
 use crate::error::{Expected, JsonError, colon_after};
@@ -101,7 +103,7 @@ fn syntax_error(alloc: Global, text: &str, error: &Error) -> JsonTextError
 /// Returns the error for JSON that is no value of the schema.
 fn error_in(alloc: Global, text: &str, error: JsonError<'_>) -> JsonTextError
     ensures place { IsPlaceIn text.now result }
-    ensures memory { error.entry ≡ JsonError.OutOfMemory → result ≡ JsonTextError.OutOfMemory }
+    ensures same { IsErrorIn text.now error.entry result }
 {
     match error {
         JsonError::NotAValue { path, expected } => part_error(alloc, text, &path, expected),
@@ -112,6 +114,8 @@ fn error_in(alloc: Global, text: &str, error: JsonError<'_>) -> JsonTextError
 /// Returns the error of the part with this path.
 fn part_error(alloc: Global, text: &str, path: &Path<'_>, expected: Expected) -> JsonTextError
     ensures place { IsPlaceIn text.now result }
+    ensures path { HasPath (path_text path.now.steps.items) expected result }
+    ensures part { IsPlaceOf (plain_path path.now) text.now result }
 {
     let Ok(printed) = format!(in alloc; "{path}") else {
         return JsonTextError::OutOfMemory;
@@ -127,6 +131,7 @@ fn part_error(alloc: Global, text: &str, path: &Path<'_>, expected: Expected) ->
 fn not_a_value(text: &str, left: usize, path: String, expected: Expected) -> JsonTextError
     ensures place { IsPlaceIn text.now result }
     ensures after { IsPlaceAfter (characters (take (length text.now - left) text.now)) result }
+    ensures path { HasPath (string_bytes path) expected result }
 {
     JsonTextError::NotAValue {
         character: character_of(text.as_bytes(), left),
