@@ -19,22 +19,30 @@ use std::alloc::{AllocError, Global};
 /// # Errors
 ///
 /// Fails if an allocation fails.
-#[cycle(write)]
 pub fn to_json(alloc: Global, schema: &Schema, value: &Value) -> Result<Option<Json>, AllocError>
+    ensures { IfOk result (λ o. IfSome o (λ j. Some (view j)
+        ≡ json_of (layout_of schema.now) (tree value.now))) }
+{
+    write(alloc, value, schema)
+}
+
+// The value stands before its type, since the calls end by the depth of the value.
+#[cycle(write)]
+fn write(alloc: Global, value: &Value, schema: &Schema) -> Result<Option<Json>, AllocError>
     ensures { IfOk result (λ o. IfSome o (λ j. Some (view j)
         ≡ json_of (layout_of schema.now) (tree value.now))) }
 {
     match (schema, value) {
         (Schema::Leaf(leaf), _) => write_leaf(alloc, *leaf, value),
-        (Schema::Option(content), _) => write_option(alloc, content, value),
-        (Schema::Seq(element), Value::Seq(items)) => write_list(alloc, element, items),
-        (Schema::Array(element, _), Value::Group(items)) => write_list(alloc, element, items),
-        (Schema::Map(key, content), Value::Seq(items)) => write_map(alloc, key, content, items),
-        (Schema::Tuple(parts), Value::Group(items)) => write_tuple(alloc, parts, items),
-        (Schema::Struct(fields), Value::Group(items)) => write_struct(alloc, fields, items),
+        (Schema::Option(content), _) => write_option(alloc, value, content),
+        (Schema::Seq(element), Value::Seq(items)) => write_list(alloc, items, element),
+        (Schema::Array(element, _), Value::Group(items)) => write_list(alloc, items, element),
+        (Schema::Map(key, content), Value::Seq(items)) => write_map(alloc, items, key, content),
+        (Schema::Tuple(parts), Value::Group(items)) => write_tuple(alloc, items, parts),
+        (Schema::Struct(fields), Value::Group(items)) => write_struct(alloc, items, fields),
         (Schema::Enum(variants), Value::Variant(index, content)) => {
             match variants.get(*index as usize) {
-                Some(variant) => write_variant(alloc, variant, content),
+                Some(variant) => write_variant(alloc, content, variant),
                 None => Ok(None),
             }
         }
@@ -51,7 +59,7 @@ fn alone(alloc: Global, name: &str, content: Json) -> Result<Json, AllocError>
 }
 
 #[cycle(write)]
-fn write_option(alloc: Global, content: &Schema, value: &Value) -> Result<Option<Json>, AllocError>
+fn write_option(alloc: Global, value: &Value, content: &Schema) -> Result<Option<Json>, AllocError>
     ensures { IfOk result (λ o. IfSome o (λ j. Some (view j)
         ≡ option_json (can_be_null (layout_of content.now)) (json_of (layout_of content.now))
         (tree value.now))) }
@@ -59,7 +67,7 @@ fn write_option(alloc: Global, content: &Schema, value: &Value) -> Result<Option
     match value {
         Value::Absent => Ok(Some(Json::Null)),
         Value::Present(held) => {
-            let Some(json) = to_json(alloc, content, held)? else {
+            let Some(json) = write(alloc, held, content)? else {
                 return Ok(None);
             };
             if may_be_null(content) {
@@ -85,15 +93,15 @@ pub fn may_be_null(schema: &Schema) -> bool
 #[cycle(write)]
 fn write_list(
     alloc: Global,
-    element: &Schema,
     items: &Vec<Value>,
+    element: &Schema,
 ) -> Result<Option<Json>, AllocError>
     ensures { IfOk result (λ o. IfSome o (λ j. Some (view j) ≡ items_json
         (json_of (layout_of element.now)) (trees (map tree items.now.items)))) }
 {
     let mut all = Vec::new(alloc);
     for item in items {
-        let Some(json) = to_json(alloc, element, item)? else {
+        let Some(json) = write(alloc, item, element)? else {
             return Ok(None);
         };
         all.push(json)?;
@@ -104,9 +112,9 @@ fn write_list(
 #[cycle(write)]
 fn write_map(
     alloc: Global,
+    items: &Vec<Value>,
     key: &Schema,
     content: &Schema,
-    items: &Vec<Value>,
 ) -> Result<Option<Json>, AllocError>
     ensures { IfOk result (λ o. IfSome o (λ j. Some (view j) ≡ items_json
         (entry_json (json_of (layout_of key.now)) (json_of (layout_of content.now)))
@@ -114,7 +122,7 @@ fn write_map(
 {
     let mut all = Vec::new(alloc);
     for item in items {
-        let Some(json) = write_entry(alloc, key, content, item)? else {
+        let Some(json) = write_entry(alloc, item, key, content)? else {
             return Ok(None);
         };
         all.push(json)?;
@@ -126,9 +134,9 @@ fn write_map(
 #[cycle(write)]
 fn write_entry(
     alloc: Global,
+    entry: &Value,
     key: &Schema,
     content: &Schema,
-    entry: &Value,
 ) -> Result<Option<Json>, AllocError>
     ensures { IfOk result (λ o. IfSome o (λ j. Some (view j) ≡ entry_json
         (json_of (layout_of key.now)) (json_of (layout_of content.now)) (tree entry.now))) }
@@ -139,10 +147,10 @@ fn write_entry(
     if pair.len() != 2 {
         return Ok(None);
     }
-    let Some(first) = to_json(alloc, key, &pair[0])? else {
+    let Some(first) = write(alloc, &pair[0], key)? else {
         return Ok(None);
     };
-    let Some(second) = to_json(alloc, content, &pair[1])? else {
+    let Some(second) = write(alloc, &pair[1], content)? else {
         return Ok(None);
     };
     let both = vec![in alloc; first, second]?;
@@ -153,8 +161,8 @@ fn write_entry(
 #[cycle(write)]
 fn write_tuple(
     alloc: Global,
-    parts: &Vec<Schema>,
     items: &Vec<Value>,
+    parts: &Vec<Schema>,
 ) -> Result<Option<Json>, AllocError>
     ensures { IfOk result (λ o. IfSome o (λ j. Some (view j) ≡ parts_json
         (writers (layouts_of parts.now.items)) (trees (map tree items.now.items)))) }
@@ -167,7 +175,7 @@ fn write_tuple(
         let Some(part) = parts.get(i) else {
             return Ok(None);
         };
-        let Some(json) = to_json(alloc, part, item)? else {
+        let Some(json) = write(alloc, item, part)? else {
             return Ok(None);
         };
         all.push(json)?;
@@ -182,8 +190,8 @@ fn write_tuple(
 #[cycle(write)]
 fn write_struct(
     alloc: Global,
-    fields: &Vec<Field>,
     items: &Vec<Value>,
+    fields: &Vec<Field>,
 ) -> Result<Option<Json>, AllocError>
     ensures { IfOk result (λ o. IfSome o (λ j. Some (view j) ≡ fields_json
         (field_writers (fields_of fields.now.items)) (trees (map tree items.now.items)))) }
@@ -196,7 +204,7 @@ fn write_struct(
         let Some(field) = fields.get(i) else {
             return Ok(None);
         };
-        let Some(json) = to_json(alloc, &field.content, item)? else {
+        let Some(json) = write(alloc, item, &field.content)? else {
             return Ok(None);
         };
         if members.contains_key(field.name.as_str()) {
@@ -210,8 +218,8 @@ fn write_struct(
 #[cycle(write)]
 fn write_variant(
     alloc: Global,
-    variant: &Variant,
     value: &Value,
+    variant: &Variant,
 ) -> Result<Option<Json>, AllocError>
     ensures { IfOk result (λ o. IfSome o (λ j. Some (view j)
         ≡ variant_json (string_bytes variant.now.name) (layout_of variant.now.content)
@@ -220,7 +228,7 @@ fn write_variant(
     if is_unit(&variant.content) {
         return Ok(Some(Json::try_from_str(alloc, &variant.name)?));
     }
-    let Some(json) = to_json(alloc, &variant.content, value)? else {
+    let Some(json) = write(alloc, value, &variant.content)? else {
         return Ok(None);
     };
     Ok(Some(alone(alloc, &variant.name, json)?))

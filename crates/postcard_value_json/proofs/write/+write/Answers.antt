@@ -1,4 +1,4 @@
-use Rattle.std.proofs.Common.{◌≡◌, ◌<◌, ◌++◌, true, false, [], ◌∷◌, map, take, length, vec_len, get_or, string_bytes, Some, is_some, nat_cmp, refl, sym, ap, ◌∙◌, add-one, take_all, arith, rules}
+use Rattle.std.proofs.Common.{◌≡◌, ◌<◌, true, false, [], ◌∷◌, map, take, length, vec_len, get_or, string_bytes, Some, is_some, nat_cmp, sym, ap, ◌∙◌, add-one, take_all, arith, rules}
 use Rattle.std.specs.Bool.{◌==◌}
 use Rattle.std.specs.BTreeMap.{is_at}
 use Rattle.std.specs.Cmp.Lexicographic.{slice_cmp}
@@ -9,7 +9,7 @@ use Rattle.postcard_wire.specs.Tree.{trees}
 use Rattle.postcard_wire.specs.Tree as nodes
 use Rattle.postcard_value.specs.Tree.{tree}
 use Rattle.postcard_value.specs.declared.value.Value as values
-use Rattle.postcard_value_text.specs.Layout.{layout_of, layouts_of, fields_of}
+use Rattle.postcard_value_text.specs.Layout.{layout_of}
 use Rattle.postcard_value_text.proofs.Layouts.{layout_of_map, layout_of_struct, layout_of_enum}
 use Rattle.serde_json.specs.Data.{put, no_members, null}
 use Rattle.serde_json.specs.Find.{get_member}
@@ -20,22 +20,22 @@ use Rattle.postcard_value_json.specs.Written.{json_of, entry_json, variant_json,
 use Rattle.postcard_value_json.proofs.Rows.{list_more, list_whole, entry_whole, each_more, members_more, parts_whole, fields_whole, writer_of, field_writer, variant_at, row_full, row_none, not_there, still_some}
 use Rattle.postcard_value_json.proofs.write.+write.Goals as goal
 
-pub to_json-returns-in-Map-Seq : goal.to_json-returns-in-Map-Seq
-to_json-returns-in-Map-Seq t c =
+pub write-returns-in-Map-Seq : goal.write-returns-in-Map-Seq
+write-returns-in-Map-Seq t c =
     let w = c.in-Map-Seq.items in
     let seen : tree (values.Seq w) ≡ nodes.Seq (trees (map tree w.items)) = search (rules, values.the_lemmas) in
     rw (c.in-Map-Seq.is-0, c.in-Map-Seq.is-1, layout_of_map c.in-Map-Seq.key c.in-Map-Seq.content, seen)
     (rw (c.deref-in-Map-Seq.ensures, c.deref-in-Map-Seq-2.ensures) at c.write_map.ensures)
 
-pub to_json-returns-in-Struct-Group : goal.to_json-returns-in-Struct-Group
-to_json-returns-in-Struct-Group t c =
+pub write-returns-in-Struct-Group : goal.write-returns-in-Struct-Group
+write-returns-in-Struct-Group t c =
     let v = c.in-Struct-Group.fields in
     let w = c.in-Struct-Group.items in
     let seen : tree (values.Group w) ≡ nodes.Group (trees (map tree w.items)) = search (rules, values.the_lemmas) in
     rw (c.in-Struct-Group.is-0, c.in-Struct-Group.is-1, layout_of_struct v, seen) c.write_struct.ensures
 
-pub to_json-returns-in-Some : goal.to_json-returns-in-Some
-to_json-returns-in-Some t c =
+pub write-returns-in-Some : goal.write-returns-in-Some
+write-returns-in-Some t c =
     let v = c.in-Enum-Variant.variants in
     let b = c.in-Enum-Variant.content in
     let i = c.in-Enum-Variant.index in

@@ -1,0 +1,1 @@
+-- The prover finds this proof, also beside calls that are refused.
