@@ -23,6 +23,7 @@ use Rattle.postcard_value_json.specs.Written.{alone, can_be_null}
 use Rattle.postcard_value_json_read.specs.declared.error.JsonError.{JsonError}
 use Rattle.postcard_value_json_read.specs.declared.error.JsonError.TheVariants.{OutOfMemory}
 use Rattle.postcard_value_json_read.specs.Reading.{Reading, IsLeafJson, IsBitsJson, IsOptionJson, IsListJson, IsArrayJson, IsVariantJson, AreItems, IsJsonOf, IsJsonAt}
+use Rattle.postcard_value_json_read.proofs.Groups.{same_items}
 use Rattle.postcard_value_json_read.specs.Accepted.{Answers, IsBoth, IsOnly, IsReading}
 
 -- ---- answers
@@ -221,9 +222,6 @@ items_count R NoTrees no_items h = refl
 items_count R NoTrees (item d ds) h = absurd h
 items_count R (Then t ts) no_items h = absurd h
 items_count R (Then t ts) (item d ds) h = ap suc (items_count R ts ds h.1)
-
-pub same_items : (ds es : Items) → values.array ds ≡ values.array es → es ≡ ds
-same_items ds es is = cc is
 
 -- What is read as a list or as an array, of which the trees of P are the elements and R relates them to JSON.
 module _ (P : Tree → Type 0) (R : Reading) where

@@ -14,10 +14,16 @@ use Rattle.serde_json.specs.declared.value.Value as json
 use Rattle.serde_json.specs.Data.{Data, Items, null, no_items, item}
 use Rattle.serde_json.specs.Data as values
 use Rattle.serde_json.specs.Events.{items_len}
-use Rattle.serde_json.specs.Find.{get}
+use Rattle.serde_json.specs.Find.{get, get_item}
 use Rattle.serde_json.specs.View.{view, items_view}
 use Rattle.postcard_value_json_read.specs.Reading.{Reading, IsJsonOf, IsEntryJson, IsTupleJson, IsStructJson, AreParts, AreFields, HasMembers, fields_len, pair}
-use Rattle.postcard_value_json_read.specs.Accepted.{IsOnly, IsReading, IsEntryReading, IsMemberReading, ArePartsReading, AreFieldsReading}
+use Rattle.postcard_value_json_read.specs.Accepted.{IsOnly, IsReading, IsEntryReading, IsHalfReading, IsMemberReading, entry_tree, ArePartsReading, AreFieldsReading}
+
+pub some_is : {A : Type 0} (x y : A) → Some x ≡ Some y → x ≡ y
+some_is x y e = cc
+
+pub same_items : (ds es : Items) → values.array ds ≡ values.array es → es ≡ ds
+same_items ds es is = cc is
 
 -- ---- the parts of a tuple
 
@@ -112,9 +118,6 @@ tuple_only (s ∷ ss) ts ds full (h, one) = (
       let k = tuple_form (s ∷ ss) u (values.array ds) full r in
       k.is ∙ ap nodes.Group (one names k.parts (subst (ArePartsReading (types_of (s ∷ ss)) (layouts_of (s ∷ ss)) k.parts) (same_items ds k.items k.form) k.read)),
 )
-  where
-    same_items : (ds es : Items) → values.array ds ≡ values.array es → es ≡ ds
-    same_items ds es is = cc is
 
 -- The unit.
 pub unit_only : (d : Data) → d ≡ null → IsOnly (Unit {0}) (IsReading (group no_types) (layouts.tuple no_layouts)) (nodes.Group NoTrees) d
@@ -125,19 +128,15 @@ unit_other u d other ((us, is, none), h) = other (subst (λ z. IsTupleJson no_la
 
 -- ---- entries of maps
 
--- An array of two items.
-pub pair_view : (js : List json.Value) (u v : json.Value) → length js ≡ 2 → u ≡ get_or js 0 u → v ≡ get_or js 1 v → items_view js ≡ item (view u) (item (view v) no_items)
-pair_view [] u v two first second = absurd (omega (arith, two))
-pair_view (x ∷ []) u v two first second = absurd (omega (arith, two))
-pair_view (x ∷ y ∷ []) u v two first second = rw (first, second) refl
-pair_view (x ∷ y ∷ z ∷ js) u v two first second = absurd (omega (arith, two))
+-- Two items are those at the indexes 0 and 1.
+two_items : (ds : Items) (e f : Data) → items_len ds ≡ 2 → get_item 0 ds ≡ Some e → get_item 1 ds ≡ Some f → ds ≡ item e (item f no_items)
+two_items no_items e f long first second = absurd (omega (arith, long))
+two_items (item a no_items) e f long first second = absurd (omega (arith, long))
+two_items (item a (item b no_items)) e f long first second = ap₂ (λ x y. item x (item y no_items)) (some_is a e first) (some_is b f second)
+two_items (item a (item b (item x ds))) e f long first second = absurd (omega (arith, long))
 
 same_pair : (a b e f : Data) → pair a b ≡ pair e f → (a ≡ e) × (b ≡ f)
 same_pair a b e f is = (cc is, cc is)
-
--- The trees of a key and a value.
-abbrev pub entry_tree : Tree → Tree → Tree
-entry_tree t u = nodes.Group (Then t (Then u NoTrees))
 
 -- What is read as an entry of types k and v with the layouts x and y.
 pub record EntryForm (k : MessageType) (x : Layout) (v : MessageType) (y : Layout) (u : Tree) (d : Data) : Type 0 where
@@ -167,20 +166,29 @@ module _ (k : MessageType) (x : Layout) (v : MessageType) (y : Layout) where
         m.is ∙ ap₂ entry_tree (one names.0 m.key (subst (IsReading k x m.key) same.0 m.key_read)) (other names.1 m.value (subst (IsReading v y m.value) same.1 m.value_read)),
   )
 
-  -- What holds wherever the key or the value is read holds wherever the entry is.
-  pub key_by : (P : Type 0) (w : Tree) (d e f : Data) → d ≡ pair e f → ((t : Tree) → IsReading k x t e → P) → IsEntryReading k x v y w d → P
-  key_by P w d e f is g r =
-      let m = entry_form w d r in
-      g m.key (subst (IsReading k x m.key) (same_pair m.first m.second e f (sym m.form ∙ is)).0 m.key_read)
+  -- The key and the value are read as the halves of an entry.
+  pub key_half : (w : Tree) (d : Data) → IsEntryReading k x v y w d → (t : Tree) × IsHalfReading 0 k x t d
+  key_half w d r = let m = entry_form w d r in (m.key, (item m.first (item m.second no_items), m.form, refl, m.first, refl, m.key_read))
 
-  pub value_by : (P : Type 0) (w : Tree) (d e f : Data) → d ≡ pair e f → ((t : Tree) → IsReading v y t f → P) → IsEntryReading k x v y w d → P
-  value_by P w d e f is g r =
-      let m = entry_form w d r in
-      g m.value (subst (IsReading v y m.value) (same_pair m.first m.second e f (sym m.form ∙ is)).1 m.value_read)
+  pub value_half : (w : Tree) (d : Data) → IsEntryReading k x v y w d → (t : Tree) × IsHalfReading 1 v y t d
+  value_half w d r = let m = entry_form w d r in (m.value, (item m.first (item m.second no_items), m.form, refl, m.second, refl, m.value_read))
 
-  -- Other JSON is no entry.
-  pub entry_other : (w : Tree) (d : Data) → ((ds : Items) → d ≡ values.array ds → items_len ds ≡ 2 → ⊥) → IsEntryReading k x v y w d → ⊥
-  entry_other w d other r = let m = entry_form w d r in other (item m.first (item m.second no_items)) m.form refl
+  pub halves_only : (t u : Tree) (d : Data) → IsOnly (HasDistinctNames x) (IsHalfReading 0 k x) t d → IsOnly (HasDistinctNames y) (IsHalfReading 1 v y) u d
+      → IsOnly (HasDistinctNames x × HasDistinctNames y) (IsEntryReading k x v y) (entry_tree t u) d
+  halves_only t u d ((ds, is, long, e, first, h), one) ((es, was, size, f, second, g), other) =
+      let same : es ≡ ds = same_items ds es (sym is ∙ was) in
+      let form : d ≡ pair e f = is ∙ ap values.array (two_items ds e f long first (subst (λ z. get_item 1 z ≡ Some f) same second)) in
+      entry_only t u d e f form (h, λ names w r. one names w (ds, is, long, e, first, r)) (g, λ names w r. other names w (es, was, size, f, second, r))
+
+-- The half of an array of two items is what its item is read as.
+pub half_from : (h : ℕ) (m : MessageType) (x : Layout) (u : Tree) (d : Data) (ds : Items) (e : Data) → d ≡ values.array ds → get_item h ds ≡ Some e → IsHalfReading h m x u d → IsReading m x u e
+half_from h m x u d ds e form found (es, is, long, f, has, r) =
+    let same : es ≡ ds = same_items ds es (sym form ∙ is) in
+    subst (IsReading m x u) (some_is f e (sym has ∙ ap (get_item h) same ∙ found)) r
+
+pub half_answer : (h : ℕ) (m : MessageType) (x : Layout) (t : Tree) (d : Data) (ds : Items) (e : Data) → d ≡ values.array ds → items_len ds ≡ 2 → get_item h ds ≡ Some e
+    → IsOnly (HasDistinctNames x) (IsReading m x) t e → IsOnly (HasDistinctNames x) (IsHalfReading h m x) t d
+half_answer h m x t d ds e form long found (r, one) = ((ds, form, long, e, found, r), λ names u q. one names u (half_from h m x u d ds e form found q))
 
 -- ---- the fields of a struct
 
@@ -253,9 +261,6 @@ struct_only ns ts d long (h, one) = (
 )
 
 -- ---- members
-
-pub some_is : {A : Type 0} (x y : A) → Some x ≡ Some y → x ≡ y
-some_is x y e = cc
 
 -- A member that is read by R, where the JSON has this member.
 pub member_from : (n : List ℕ) (R : Reading) (d e : Data) (t : Tree) → get n d ≡ Some e → (f : Data) × (get n d ≡ Some f) × R t f → R t e

@@ -1,6 +1,7 @@
 -- When JSON must be read: it is read as the only tree that it spells.
-use Rattle.std.specs.Prelude.{◌≡◌, ℕ, List, Option, MatchOption, Result, MatchResult, string_bytes, ◌⊎◌}
-use Rattle.postcard_wire.specs.Tree.{Tree, Trees}
+use Rattle.std.specs.Prelude.{◌≡◌, ℕ, List, Option, MatchOption, Result, MatchResult, Some, string_bytes, ◌⊎◌}
+use Rattle.postcard_wire.specs.Tree.{Tree, Trees, NoTrees, Then}
+use Rattle.postcard_wire.specs.Tree as nodes
 use Rattle.postcard_schema.specs.declared.schema.Named.{Named}
 use Rattle.postcard_schema.specs.declared.schema.Schema.{Schema}
 use Rattle.postcard_schema.specs.Meaning.{MessageType, MessageTypes, entry_of, reads, reads_all}
@@ -9,6 +10,9 @@ use Rattle.postcard_value.specs.Tree.{tree}
 use Rattle.postcard_value_text.specs.Accepted.{HasDistinctNames}
 use Rattle.postcard_value_text.specs.Layout.{Layout, Layouts, Fields, layout_of}
 use Rattle.serde_json.specs.Data.{Data, Items, string}
+use Rattle.serde_json.specs.Data as values
+use Rattle.serde_json.specs.Events.{items_len}
+use Rattle.serde_json.specs.Find.{get_item}
 use Rattle.postcard_value_json.specs.Written.{alone}
 use Rattle.postcard_value_json_read.specs.declared.error.JsonError.{JsonError}
 use Rattle.postcard_value_json_read.specs.declared.error.JsonError.TheVariants.{OutOfMemory}
@@ -22,15 +26,23 @@ IsBoth P R t d = P t × R t d
 abbrev pub IsReading : MessageType → Layout → Reading
 IsReading m x = IsBoth (reads m) (IsJsonOf x)
 
+-- The tree of an entry of a map.
+abbrev pub entry_tree : Tree → Tree → Tree
+entry_tree key value = nodes.Group (Then key (Then value NoTrees))
+
 -- The same of an entry of a map.
 abbrev pub IsEntryReading : (key : MessageType) → Layout → (value : MessageType) → Layout → Reading
 IsEntryReading k x v y = IsBoth (reads (entry_of k v)) (IsEntryJson (IsJsonOf x) (IsJsonOf y))
 
--- The same of the trees of a tuple.
+-- The JSON is an array of two items, of which the one at this index is read as the tree.
+abbrev pub IsHalfReading : ℕ → MessageType → Layout → Reading
+IsHalfReading half m x t d = (ds : Items) × (d ≡ values.array ds) × (items_len ds ≡ 2) × (e : Data) × (get_item half ds ≡ Some e) × IsReading m x t e
+
+-- The trees are those of the types of a tuple, and the items are read as them.
 abbrev pub ArePartsReading : MessageTypes → Layouts → Trees → Items → Type 0
 ArePartsReading ms xs ts ds = reads_all ms ts × AreParts xs ts ds
 
--- The same of the trees of a struct.
+-- The trees are those of the types of a struct, and the members of the JSON are read as them.
 abbrev pub AreFieldsReading : MessageTypes → Fields → Trees → Data → Type 0
 AreFieldsReading ms fs ts d = reads_all ms ts × AreFields fs ts d
 

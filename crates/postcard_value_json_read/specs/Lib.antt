@@ -16,8 +16,7 @@ pub use Rattle.serde_json.specs.View.{items_view, view}
 pub use Rattle.std.specs.Int.{w128}
 pub use Rattle.postcard_wire.specs.Tree.{Present, Tree, trees}
 pub use Rattle.postcard_schema.specs.Leaves.{is_signed}
-pub use Rattle.postcard_schema.specs.Meaning.{contents, entry_of, leaf as leaf_type, reads, type_of}
-pub use Rattle.postcard_schema.specs.Meaning.{types_of}
+pub use Rattle.postcard_schema.specs.Meaning.{contents, leaf as leaf_type, reads, type_of, types_of}
 pub use Rattle.postcard_schema.specs.Paths.{path_text, plain_path, plain_step}
 pub use Rattle.postcard_schema.specs.declared.schema.Named.{Named}
 pub use Rattle.postcard_schema.specs.declared.schema.Schema.{Schema}
@@ -29,9 +28,9 @@ pub use Rattle.postcard_value_text.specs.Layout.{fields_of, layout_of, layouts_o
 pub use Rattle.postcard_value_text.specs.Layout.{leaf as leaf_layout}
 pub use Rattle.postcard_value_json.specs.Written.{alone, json_of}
 pub use Rattle.postcard_value_json_read.specs.Accepted.{Answers, AreFieldsReading, ArePartsReading}
-pub use Rattle.postcard_value_json_read.specs.Accepted.{Finds, IsContentReading, IsEntryReading}
+pub use Rattle.postcard_value_json_read.specs.Accepted.{Finds, IsContentReading, IsHalfReading}
 pub use Rattle.postcard_value_json_read.specs.Accepted.{IsJsonOfVariant, IsMemberReading, IsNameIn}
-pub use Rattle.postcard_value_json_read.specs.Accepted.{IsReading, Reads}
+pub use Rattle.postcard_value_json_read.specs.Accepted.{IsReading, Reads, entry_tree}
 pub use Rattle.postcard_value_json_read.specs.Lines.{AreLines, IsLine}
 pub use Rattle.postcard_value_json_read.specs.Places.{HasFields, HasPath, IsAt, IsErrorIn}
 pub use Rattle.postcard_value_json_read.specs.Places.{IsExpected, IsLengthError, IsPlaceAfter}

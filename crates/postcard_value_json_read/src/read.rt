@@ -1,13 +1,12 @@
 //! Reading a value from JSON: [`from_json`]. The functions below it fail as it does.
 
-ghost use Rattle.std.specs.Prelude.{◌≡◌, ◌<◌, ℕ, length, get_or, map, string_bytes, true, false};
-ghost use Rattle.std.specs.Prelude.{Some, IfOk, MatchResult};
+ghost use Rattle.std.specs.Prelude.{◌≡◌, ◌<◌, length, map, Some, IfOk, MatchResult};
 ghost use Rattle.postcard_value_json_read.specs.{Answers, AreItems, ArePartsReading};
 ghost use Rattle.postcard_value_json_read.specs.{AreFieldsReading, AreNamed, HasDistinctNames};
 ghost use Rattle.postcard_value_json_read.specs.{HaveDistinctNames, IsContentReading};
-ghost use Rattle.postcard_value_json_read.specs.{IsEntryReading, IsJsonOf, IsMemberReading};
+ghost use Rattle.postcard_value_json_read.specs.{IsHalfReading, IsJsonOf, IsMemberReading};
 ghost use Rattle.postcard_value_json_read.specs.{IsReading, Present, Reads, Tree, contents};
-ghost use Rattle.postcard_value_json_read.specs.{entry_of, fields_of, items_view, json_of};
+ghost use Rattle.postcard_value_json_read.specs.{entry_tree, fields_of, items_view, json_of};
 ghost use Rattle.postcard_value_json_read.specs.{layout_of, layouts_of, reads, tree, trees};
 ghost use Rattle.postcard_value_json_read.specs.{type_of, types_of, view};
 ghost use Rattle.postcard_schema.specs.Meaning as types;
@@ -55,7 +54,20 @@ fn read<'a>(alloc: Global, schema: &'a Schema, json: &'a Json) -> Result<Value, 
         Schema::Leaf(leaf) => read_leaf(alloc, *leaf, json),
         Schema::Option(content) => read_option(alloc, content, json),
         Schema::Seq(element) => read_list(alloc, element, json),
-        Schema::Map(key, value) => read_map(alloc, key, value, json),
+        Schema::Map(key, value) => {
+            let Some(items) = json.as_array() else {
+                return Err(JsonError::here(alloc, Expected::Array));
+            };
+            let mut entries = Vec::new(alloc);
+            for (i, item) in items.iter().enumerate() {
+                let step = Step::Element(i as u64);
+                let first = read_half(alloc, key, item, 0, step)?;
+                let second = read_half(alloc, value, item, 1, step)?;
+                let entry = make_entry(alloc, first, second)?;
+                push(&mut entries, entry)?;
+            }
+            Ok(Value::Seq(entries))
+        }
         Schema::Array(element, count) => read_array(alloc, element, *count, json),
         Schema::Tuple(parts) => read_tuple(alloc, parts, json),
         Schema::Struct(fields) => read_struct(alloc, fields, json),
@@ -162,50 +174,37 @@ fn read_items<'a>(
     Ok(values)
 }
 
+/// Reads the key of an entry of a map, if `half` is 0, or the value, if it is 1. The step leads to
+/// the entry.
 #[cycle(read)]
-fn read_map<'a>(
+fn read_half<'a>(
     alloc: Global,
-    key: &'a Schema,
-    value: &'a Schema,
-    json: &'a Json,
+    schema: &'a Schema,
+    entry: &'a Json,
+    half: usize,
+    step: Step<'a>,
 ) -> Result<Value, JsonError<'a>>
-    ensures { Reads (types.seq (entry_of (type_of key.now) (type_of value.now)))
-        (layouts.mapping (layout_of key.now) (layout_of value.now)) (view json.now) result }
+    requires { half < 2 }
+    ensures { Answers (HasDistinctNames (layout_of schema.now)) tree
+        (IsHalfReading half (type_of schema.now) (layout_of schema.now)) (view entry.now) result }
 {
-    let Some(items) = json.as_array() else {
-        return Err(JsonError::here(alloc, Expected::Array));
+    let Some(pair) = items_in(entry, 2) else {
+        return Err(JsonError::here(alloc, Expected::ArrayOf(2)).within(step));
     };
-    let mut entries = Vec::new(alloc);
-    for (i, item) in items.iter().enumerate() {
-        let entry = match read_entry(alloc, key, value, item) {
-            Ok(entry) => entry,
-            Err(error) => return Err(error.within(Step::Element(i as u64))),
-        };
-        push(&mut entries, entry)?;
+    match read_part(alloc, schema, &pair[half], Step::Element(half as u64)) {
+        Ok(value) => Ok(value),
+        Err(error) => Err(error.within(step)),
     }
-    Ok(Value::Seq(entries))
 }
 
-#[cycle(read)]
-fn read_entry<'a>(
-    alloc: Global,
-    key: &'a Schema,
-    value: &'a Schema,
-    json: &'a Json,
-) -> Result<Value, JsonError<'a>>
-    ensures { Answers
-        (HasDistinctNames (layout_of key.now) × HasDistinctNames (layout_of value.now)) tree
-        (IsEntryReading (type_of key.now) (layout_of key.now) (type_of value.now)
-        (layout_of value.now)) (view json.now) result }
+/// Returns an entry of a map, as a value.
+fn make_entry<'a>(alloc: Global, key: Value, value: Value) -> Result<Value, JsonError<'a>>
+    ensures { MatchResult result (λ v. tree v ≡ entry_tree (tree key) (tree value))
+        (λ e. e ≡ JsonError.OutOfMemory) }
 {
-    let Some(pair) = items_in(json, 2) else {
-        return Err(JsonError::here(alloc, Expected::ArrayOf(2)));
-    };
-    let first = read_part(alloc, key, &pair[0], Step::Element(0))?;
-    let second = read_part(alloc, value, &pair[1], Step::Element(1))?;
     let mut parts = Vec::new(alloc);
-    push(&mut parts, first)?;
-    push(&mut parts, second)?;
+    push(&mut parts, key)?;
+    push(&mut parts, value)?;
     Ok(Value::Group(parts))
 }
 
@@ -287,22 +286,26 @@ fn read_fields<'a>(
 {
     let mut values = Vec::new(alloc);
     for field in fields {
-        let value = read_field(alloc, field, json)?;
+        let value = read_field(alloc, &field.name, &field.content, json)?;
         push(&mut values, value)?;
     }
     Ok(values)
 }
 
 #[cycle(read)]
-fn read_field<'a>(alloc: Global, field: &'a Field, json: &'a Json) -> Result<Value, JsonError<'a>>
-    ensures { Answers (HasDistinctNames (layout_of field.now.content)) tree
-        (IsMemberReading (string_bytes field.now.name) (type_of field.now.content)
-        (layout_of field.now.content)) (view json.now) result }
+fn read_field<'a>(
+    alloc: Global,
+    name: &'a str,
+    content: &'a Schema,
+    json: &'a Json,
+) -> Result<Value, JsonError<'a>>
+    ensures { Answers (HasDistinctNames (layout_of content.now)) tree
+        (IsMemberReading name.now (type_of content.now) (layout_of content.now))
+        (view json.now) result }
 {
-    let step = Step::Name(&field.name);
-    match json.get(field.name.as_str()) {
-        Some(found) => read_part(alloc, &field.content, found, step),
-        None => Err(JsonError::here(alloc, Expected::Present).within(step)),
+    match json.get(name) {
+        Some(found) => read_part(alloc, content, found, Step::Name(name)),
+        None => Err(JsonError::here(alloc, Expected::Present).within(Step::Name(name))),
     }
 }
 
@@ -322,7 +325,7 @@ fn read_variant<'a>(
     let Ok(index) = u32::try_from(index) else {
         return Err(JsonError::here(alloc, Expected::Variant));
     };
-    let content = read_content(alloc, variant, json)?;
+    let content = read_content(alloc, &variant.name, &variant.content, json)?;
     match Box::new(alloc, content) {
         Ok(held) => Ok(Value::Variant(index, held)),
         Err(_) => Err(JsonError::OutOfMemory),
@@ -332,21 +335,22 @@ fn read_variant<'a>(
 #[cycle(read)]
 fn read_content<'a>(
     alloc: Global,
-    variant: &'a Variant,
+    name: &'a str,
+    content: &'a Schema,
     json: &'a Json,
 ) -> Result<Value, JsonError<'a>>
-    ensures { Answers (HasDistinctNames (layout_of variant.now.content)) tree
-        (IsContentReading (string_bytes variant.now.name) (type_of variant.now.content)
-        (layout_of variant.now.content)) (view json.now) result }
+    ensures { Answers (HasDistinctNames (layout_of content.now)) tree
+        (IsContentReading name.now (type_of content.now) (layout_of content.now))
+        (view json.now) result }
 {
-    if is_unit(&variant.content) {
-        if is_text(json, &variant.name) {
+    if is_unit(content) {
+        if is_text(json, name) {
             return Ok(Value::Group(Vec::new(alloc)));
         }
         return Err(JsonError::here(alloc, Expected::Variant));
     }
-    let Some(found) = only_member(json, &variant.name) else {
+    let Some(found) = only_member(json, name) else {
         return Err(JsonError::here(alloc, Expected::Variant));
     };
-    read_part(alloc, &variant.content, found, Step::Name(&variant.name))
+    read_part(alloc, content, found, Step::Name(name))
 }

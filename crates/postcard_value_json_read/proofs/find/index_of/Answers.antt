@@ -3,6 +3,9 @@ use Rattle.serde_json.specs.View.{view}
 use Rattle.postcard_value_json_read.proofs.Variants.{none_more}
 use Rattle.postcard_value_json_read.proofs.find.index_of.Goals as goal
 
+pub returns-then-is_called-clause-found : goal.returns-then-is_called-clause-found
+returns-then-is_called-clause-found c = λ low. (c.variant-item.result, rw c.deref-variant-items.ensures.value at c.variant-item.is, c.is_called.ensures.called c.if-is_called.true)
+
 pub loop-i-preserved : goal.loop-i-preserved
 loop-i-preserved c =
     let whole = c.deref-variant-items.ensures.value in

@@ -24,6 +24,6 @@ returns-then-is_unit-clause-other c = λ no t h.
 pub returns-else-is_unit-clause-called : goal.returns-else-is_unit-clause-called
 returns-else-is_unit-clause-called c = λ yes.
     let n = string_bytes c.args.variant.now.name in
-    let found = some_found c.only_member.result c.deref.result.now (view c.args.json.now) (sym c.is_some.ensures ∙ yes) c.only_member.ensures.found in
-    let same : view c.args.json.now ≡ alone n found.0 = found.1 ∙ ap (λ m. alone m found.0) c.deref.ensures in
+    let found = some_found c.only_member.result c.deref-else-is_unit.result.now (view c.args.json.now) (sym c.is_some.ensures ∙ yes) c.only_member.ensures.found in
+    let same : view c.args.json.now ≡ alone n found.0 = found.1 ∙ ap (λ m. alone m found.0) c.deref-else-is_unit.ensures in
     inr (found.0, same)

@@ -4,7 +4,7 @@ use Rattle.serde_json.specs.Data as values
 use Rattle.serde_json.specs.Events.{items_len}
 use Rattle.serde_json.specs.View.{view, items_view}
 use Rattle.serde_json.proofs.Views.{items_len-items_view}
-use Rattle.postcard_value_json_read.proofs.Answered.{same_items}
+use Rattle.postcard_value_json_read.proofs.Groups.{same_items}
 use Rattle.postcard_value_json_read.proofs.Forms.{array_is, no_array}
 use Rattle.postcard_value_json_read.proofs.find.items_in.Goals as goal
 

@@ -3,7 +3,7 @@ use Rattle.std.specs.Prelude.{is_some}
 use Rattle.std.specs.Bool.{◌==◌}
 use Rattle.std.proofs.lemmas.Bool.Decides.{Decides-ltb}
 use Rattle.std.proofs.lemmas.Grind.{common_steps}
-use Rattle.std.proofs.lemmas.List.{get_or_default, take_more}
+use Rattle.std.proofs.lemmas.List.{take_more}
 use Rattle.postcard_wire.specs.Tree.{Trees, trees, count}
 use Rattle.postcard_wire.specs.Tree as nodes
 use Rattle.postcard_ser.proofs.Elements.{elements_count}
@@ -17,15 +17,17 @@ use Rattle.postcard_value_text.specs.Layout.{fields_of, layout_of, layouts_of}
 use Rattle.postcard_value_text.specs.Layout as layouts
 use Rattle.postcard_value_text.proofs.Layouts.{layout_of_array, layout_of_enum, layout_of_map, layout_of_seq, layout_of_struct}
 use Rattle.serde_json.specs.Data as values
-use Rattle.serde_json.specs.Find.{get}
+use Rattle.serde_json.proofs.Views.{get_item_within, items_len-items_view}
+use Rattle.serde_json.specs.Events.{items_len}
+use Rattle.serde_json.specs.Find.{get, get_item}
 use Rattle.serde_json.specs.View.{view, items_view}
 use Rattle.postcard_value_json.specs.Written.{alone, can_be_null}
-use Rattle.postcard_value_json_read.specs.Reading.{AreItems, IsEntryJson, IsJsonOf, pair}
+use Rattle.postcard_value_json_read.specs.Reading.{AreItems, IsEntryJson, IsJsonOf}
 use Rattle.postcard_value_json_read.specs.Accepted.{AreFieldsReading, ArePartsReading, IsContentReading, IsEntryReading, IsMemberReading, IsOnly, IsReading, Reads}
 use Rattle.postcard_value_json_read.proofs.Forms.{null_is, not_null_is, array_is, no_array}
 use Rattle.postcard_value_json_read.proofs.Ends.{none_left}
-use Rattle.postcard_value_json_read.proofs.Answered.{same_items, absent_only, nullable_only, plain_only, nullable_by, plain_by, items_more, items_only, item_at, items_count, list_form, list_only, list_other, array_form, array_only, array_other, passed, boxed, answer_by}
-use Rattle.postcard_value_json_read.proofs.Groups.{distinct_at, entry_only, entry_tree, entry_other, field_at, fields_more, fields_only, key_by, member_from, named_at, pair_view, part_at, parts_more, parts_only, struct_form, struct_only, tuple_form, tuple_only, value_by}
+use Rattle.postcard_value_json_read.proofs.Answered.{absent_only, nullable_only, plain_only, nullable_by, plain_by, items_more, items_only, item_at, items_count, list_form, list_only, list_other, array_form, array_only, array_other, passed, boxed, answer_by}
+use Rattle.postcard_value_json_read.proofs.Groups.{distinct_at, field_at, fields_more, fields_only, half_answer, half_from, halves_only, key_half, member_from, named_at, part_at, parts_more, parts_only, same_items, struct_form, struct_only, tuple_form, tuple_only, value_half}
 use Rattle.postcard_value_json_read.proofs.Variants.{content_from, content_to, one_index, other_content, same_content, unit_content, unit_only, variant_by, variant_form, variant_only}
 use Rattle.postcard_value_json_read.proofs.read.+read.Goals as goal
 
@@ -33,11 +35,6 @@ use Rattle.postcard_value_json_read.proofs.read.+read.Goals as goal
 
 pub read-returns-in-Seq : goal.read-returns-in-Seq
 read-returns-in-Seq t c = rw (c.in-Seq.is, type_of_seq c.in-Seq.element, layout_of_seq c.in-Seq.element) (rw c.deref-in-Seq.ensures at c.read_list.ensures)
-
-pub read-returns-in-Map : goal.read-returns-in-Map
-read-returns-in-Map t c =
-    rw (c.in-Map.is, type_of_map c.in-Map.key c.in-Map.value, layout_of_map c.in-Map.key c.in-Map.value)
-    (rw (c.deref-in-Map.ensures, c.deref-in-Map-2.ensures) at c.read_map.ensures)
 
 pub read-returns-in-Array : goal.read-returns-in-Array
 read-returns-in-Array t c =
@@ -225,62 +222,98 @@ read_items-returns t c =
 
 -- ---- maps
 
-pub read_map-returns-in_default : goal.read_map-returns-in_default
-read_map-returns-in_default t c =
+pub read-returns-in_default : goal.read-returns-in_default
+read-returns-in_default t c =
     let d = view c.args.json.now in
-    let k = c.args.key.now in
-    let v = c.args.value.now in
-    λ names u r. absurd (list_other (reads (entry_of (type_of k) (type_of v))) (IsEntryJson (IsJsonOf (layout_of k)) (IsJsonOf (layout_of v))) u d (λ ds is. no_array d ds (rw c.in_default.is at c.as_array.ensures) is) r)
+    let k = c.in-Map.key in
+    let v = c.in-Map.value in
+    rw (c.in-Map.is, type_of_map k v, layout_of_map k v)
+    (λ names u r. absurd (list_other (reads (entry_of (type_of k.value) (type_of v.value))) (IsEntryJson (IsJsonOf (layout_of k.value)) (IsJsonOf (layout_of v.value))) u d (λ ds is. no_array d ds (rw c.in_default.is at c.as_array.ensures) is) r))
 
-pub read_map-loop-i-init : goal.read_map-loop-i-init
-read_map-loop-i-init t c = rw c.new-entries.ensures.items tt
+pub read-loop-i-init : goal.read-loop-i-init
+read-loop-i-init t c = rw c.new-entries.ensures.items tt
 
-pub read_map-returns-in-Err : goal.read_map-returns-in-Err
-read_map-returns-in-Err t c =
+pub read-returns-in_err-first-in-Map : goal.read-returns-in_err-first-in-Map
+read-returns-in_err-first-in-Map t c =
     let d = view c.args.json.now in
-    let k = c.args.key.now in
-    let v = c.args.value.now in
-    let m = entry_of (type_of k) (type_of v) in
-    let E = IsEntryJson (IsJsonOf (layout_of k)) (IsJsonOf (layout_of v)) in
-    let W = IsReading (types.seq m) (layouts.mapping (layout_of k) (layout_of v)) in
+    let k = c.in-Map.key in
+    let v = c.in-Map.value in
+    let E = IsEntryJson (IsJsonOf (layout_of k.value)) (IsJsonOf (layout_of v.value)) in
+    let R = IsEntryReading (type_of k.value) (layout_of k.value) (type_of v.value) (layout_of v.value) in
+    let x = layouts.mapping (layout_of k.value) (layout_of v.value) in
+    let W = IsReading (types.seq (entry_of (type_of k.value) (type_of v.value))) x in
     let ds = items_view c.in-Some.items.now.items in
     let form : d ≡ values.array ds = array_is d ds (rw c.in-Some.is at c.as_array.ensures) in
     let xs = c.deref-item-items.result.now in
-    λ names u r.
-    let g = list_form (reads m) E u ds (subst (W u) form r) in
-    let R = IsEntryReading (type_of k) (layout_of k) (type_of v) (layout_of v) in
+    rw (c.in-Map.is, type_of_map k v, layout_of_map k v)
+    (passed (HasDistinctNames x) tree W d c.from_residual.result _ c.from_residual.ensures.1 (λ names u r.
+    let g = list_form (reads (entry_of (type_of k.value) (type_of v.value))) E u ds (subst (W u) form r) in
     let all = subst (λ ys. AreItems R g.0 (items_view ys)) (sym c.deref-item-items.ensures.value) g.2 in
     let here = item_at R g.0 xs c.loop-i.i c.item-item.result all (omega arith) c.item-item.is in
-    c.within.ensures.memory (c.in-Err.ensures names here.0 here.1)
+    let half = key_half (type_of k.value) (layout_of k.value) (type_of v.value) (layout_of v.value) here.0 (view c.item-item.result) here.1 in
+    (rw c.deref-in-loop-i.ensures at c.in_err-first-in-Map.ensures) names.0 half.0 half.1))
 
-pub read_map-returns-in_err-push : goal.read_map-returns-in_err-push
-read_map-returns-in_err-push t c =
-    let k = c.args.key.now in
-    let v = c.args.value.now in
-    let x = layouts.mapping (layout_of k) (layout_of v) in
-    passed (HasDistinctNames x) tree (IsReading (types.seq (entry_of (type_of k) (type_of v))) x) (view c.args.json.now) c.from_residual.result _ c.from_residual.ensures.1 (λ names u r. c.in_err-push.ensures.only_out_of_memory)
+pub read-returns-in_err-second-in-Map : goal.read-returns-in_err-second-in-Map
+read-returns-in_err-second-in-Map t c =
+    let d = view c.args.json.now in
+    let k = c.in-Map.key in
+    let v = c.in-Map.value in
+    let E = IsEntryJson (IsJsonOf (layout_of k.value)) (IsJsonOf (layout_of v.value)) in
+    let R = IsEntryReading (type_of k.value) (layout_of k.value) (type_of v.value) (layout_of v.value) in
+    let x = layouts.mapping (layout_of k.value) (layout_of v.value) in
+    let W = IsReading (types.seq (entry_of (type_of k.value) (type_of v.value))) x in
+    let ds = items_view c.in-Some.items.now.items in
+    let form : d ≡ values.array ds = array_is d ds (rw c.in-Some.is at c.as_array.ensures) in
+    let xs = c.deref-item-items.result.now in
+    rw (c.in-Map.is, type_of_map k v, layout_of_map k v)
+    (passed (HasDistinctNames x) tree W d c.from_residual-in_err-second-in-Map.result _ c.from_residual-in_err-second-in-Map.ensures.1 (λ names u r.
+    let g = list_form (reads (entry_of (type_of k.value) (type_of v.value))) E u ds (subst (W u) form r) in
+    let all = subst (λ ys. AreItems R g.0 (items_view ys)) (sym c.deref-item-items.ensures.value) g.2 in
+    let here = item_at R g.0 xs c.loop-i.i c.item-item.result all (omega arith) c.item-item.is in
+    let half = value_half (type_of k.value) (layout_of k.value) (type_of v.value) (layout_of v.value) here.0 (view c.item-item.result) here.1 in
+    (rw c.deref-in-loop-i-2.ensures at c.in_err-second-in-Map.ensures) names.1 half.0 half.1))
 
-pub read_map-loop-i-preserved : goal.read_map-loop-i-preserved
-read_map-loop-i-preserved t c =
+pub read-returns-in_err-entry-in-Map : goal.read-returns-in_err-entry-in-Map
+read-returns-in_err-entry-in-Map t c =
+    let k = c.in-Map.key in
+    let v = c.in-Map.value in
+    let x = layouts.mapping (layout_of k.value) (layout_of v.value) in
+    rw (c.in-Map.is, type_of_map k v, layout_of_map k v)
+    (passed (HasDistinctNames x) tree (IsReading (types.seq (entry_of (type_of k.value) (type_of v.value))) x) (view c.args.json.now) c.from_residual-in_err-entry-in-Map.result _ c.from_residual-in_err-entry-in-Map.ensures.1 (λ names u r. c.in_err-entry-in-Map.ensures))
+
+pub read-returns-in_err-push-in-Map : goal.read-returns-in_err-push-in-Map
+read-returns-in_err-push-in-Map t c =
+    let k = c.in-Map.key in
+    let v = c.in-Map.value in
+    let x = layouts.mapping (layout_of k.value) (layout_of v.value) in
+    rw (c.in-Map.is, type_of_map k v, layout_of_map k v)
+    (passed (HasDistinctNames x) tree (IsReading (types.seq (entry_of (type_of k.value) (type_of v.value))) x) (view c.args.json.now) c.from_residual-in_err-push-in-Map.result _ c.from_residual-in_err-push-in-Map.ensures.1 (λ names u r. c.in_err-push-in-Map.ensures.only_out_of_memory))
+
+pub read-loop-i-preserved : goal.read-loop-i-preserved
+read-loop-i-preserved t c =
     let l = c.loop-i in
     let xs = c.deref-item-items.result.now in
-    let x = c.item-item.result in
-    let k = c.args.key.now in
-    let v = c.args.value.now in
-    let R = IsOnly (HasDistinctNames (layout_of k) × HasDistinctNames (layout_of v)) (IsEntryReading (type_of k) (layout_of k) (type_of v) (layout_of v)) in
-    let next : take (l.i + 1) xs ≡ take l.i xs ++ x ∷ [] = take_more xs l.i x (omega arith) ∙ ap (λ z. take l.i xs ++ z ∷ []) (sym c.item-item.is) in
-    rw (c.in_ok-push.ensures.added, next) (items_more R l.entries.items (take l.i xs) c.in-Ok.entry x l.invariant c.in-Ok.ensures)
+    let j = c.item-item.result in
+    let k = c.in-Map.key in
+    let v = c.in-Map.value in
+    let R = IsOnly (HasDistinctNames (layout_of k.value) × HasDistinctNames (layout_of v.value)) (IsEntryReading (type_of k.value) (layout_of k.value) (type_of v.value) (layout_of v.value)) in
+    let first = c.in_ok-first-in-Map.first in
+    let second = c.in_ok-second-in-Map.second in
+    let both = halves_only (type_of k.value) (layout_of k.value) (type_of v.value) (layout_of v.value) (tree first) (tree second) (view j)
+    (rw c.deref-in-loop-i.ensures at c.in_ok-first-in-Map.ensures) (rw c.deref-in-loop-i-2.ensures at c.in_ok-second-in-Map.ensures) in
+    let next : take (l.i + 1) xs ≡ take l.i xs ++ j ∷ [] = take_more xs l.i j (omega arith) ∙ ap (λ z. take l.i xs ++ z ∷ []) (sym c.item-item.is) in
+    rw (c.in_ok-push-in-Map.ensures.added, next) (items_more R l.entries.items (take l.i xs) c.in_ok-entry-in-Map.entry j l.invariant (subst (λ w. R w (view j)) (sym c.in_ok-entry-in-Map.ensures) both))
 
-pub read_map-returns : goal.read_map-returns
-read_map-returns t c =
+pub read-returns-after-loop-i : goal.read-returns-after-loop-i
+read-returns-after-loop-i t c =
     let l = c.loop-i in
     let d = view c.args.json.now in
     let xs = c.deref-item-items.result.now in
-    let k = c.args.key.now in
-    let v = c.args.value.now in
-    let D = HasDistinctNames (layout_of k) × HasDistinctNames (layout_of v) in
-    let E = IsEntryJson (IsJsonOf (layout_of k)) (IsJsonOf (layout_of v)) in
-    let R = IsEntryReading (type_of k) (layout_of k) (type_of v) (layout_of v) in
+    let k = c.in-Map.key in
+    let v = c.in-Map.value in
+    let D = HasDistinctNames (layout_of k.value) × HasDistinctNames (layout_of v.value) in
+    let E = IsEntryJson (IsJsonOf (layout_of k.value)) (IsJsonOf (layout_of v.value)) in
+    let R = IsEntryReading (type_of k.value) (layout_of k.value) (type_of v.value) (layout_of v.value) in
     let ts = trees (map tree l.entries.items) in
     let ds = items_view c.in-Some.items.now.items in
     let seen : tree (Seq l.entries) ≡ nodes.Seq ts = search (rules, the_lemmas) in
@@ -288,77 +321,43 @@ read_map-returns t c =
     let few : count ts < 2 ^ 64 = omega (arith, l.entries.small, elements_count tree l.entries.items) in
     let whole : take l.i xs ≡ c.in-Some.items.now.items = take_all l.i xs (omega arith) ∙ c.deref-item-items.ensures.value in
     let all = items_only D R ts ds (subst (λ ys. AreItems (IsOnly D R) ts (items_view ys)) whole l.invariant) in
-    rw (seen, form) (list_only (reads (entry_of (type_of k) (type_of v))) E D ts ds few all)
+    rw (c.in-Map.is, type_of_map k v, layout_of_map k v, seen, form) (list_only (reads (entry_of (type_of k.value) (type_of v.value))) E D ts ds few all)
 
-pub read_entry-returns-in_default : goal.read_entry-returns-in_default
-read_entry-returns-in_default t c =
-    let k = c.args.key.now in
-    let v = c.args.value.now in
-    λ names u r. absurd (entry_other (type_of k) (layout_of k) (type_of v) (layout_of v) u (view c.args.json.now) c.in_default.ensures.none r)
+pub read_half-returns-in_default : goal.read_half-returns-in_default
+read_half-returns-in_default t c = λ names u (ds, is, long, e, found, r). absurd (c.in_default.ensures.none ds is long)
 
-pub read_entry-returns-in_err-first : goal.read_entry-returns-in_err-first
-read_entry-returns-in_err-first t c =
-    let d = view c.args.json.now in
-    let k = c.args.key.now in
-    let v = c.args.value.now in
-    let w = c.in-Some.pair.now in
-    let u = c.index.result.now in
-    let z = get_or w.items 1 u in
+pub read_half-returns-in-Ok : goal.read_half-returns-in-Ok
+read_half-returns-in-Ok t c =
+    let d = view c.args.entry.now in
+    let x = layout_of c.args.schema.now in
+    let m = type_of c.args.schema.now in
+    let h = c.args.half in
+    let js = c.in-Some.pair.now.items in
+    let j = c.index.result.now in
+    let e = view j in
+    let form = c.in-Some.ensures.found.0 in
     let two = c.in-Some.ensures.found.1 in
-    let one : u ≡ get_or w.items 0 u = grind (arith, common_steps) in
-    let form : d ≡ pair (view u) (view z) = c.in-Some.ensures.found.0 ∙ ap values.array (pair_view w.items u z two one (get_or_default w.items 1 u z (omega (arith, two)))) in
-    let D = HasDistinctNames (layout_of k) × HasDistinctNames (layout_of v) in
-    passed D tree (IsEntryReading (type_of k) (layout_of k) (type_of v) (layout_of v)) d c.from_residual.result _ c.from_residual.ensures.1 (λ names y r.
-    key_by (type_of k) (layout_of k) (type_of v) (layout_of v) _ y d (view u) (view z) form (c.in_err-first.ensures names.0) r)
+    let here : j ≡ get_or js h j = grind (arith, common_steps) in
+    let low : h < length js = omega (arith, two, c.requires) in
+    let found : get_item h (items_view js) ≡ Some e = sym (get_item_within js h j low) ∙ ap (λ z. Some (view z)) (sym here) in
+    let long : items_len (items_view js) ≡ 2 = items_len-items_view js ∙ two in
+    half_answer h m x (tree c.in-Ok.value) d (items_view js) e form long found c.in-Ok.ensures
 
-pub read_entry-returns-in_err-second : goal.read_entry-returns-in_err-second
-read_entry-returns-in_err-second t c =
-    let d = view c.args.json.now in
-    let k = c.args.key.now in
-    let v = c.args.value.now in
-    let w = c.in-Some.pair.now in
-    let u = c.index.result.now in
-    let z = c.index-2.result.now in
+pub read_half-returns-in-Err : goal.read_half-returns-in-Err
+read_half-returns-in-Err t c =
+    let d = view c.args.entry.now in
+    let x = layout_of c.args.schema.now in
+    let m = type_of c.args.schema.now in
+    let h = c.args.half in
+    let js = c.in-Some.pair.now.items in
+    let j = c.index.result.now in
+    let e = view j in
+    let form = c.in-Some.ensures.found.0 in
     let two = c.in-Some.ensures.found.1 in
-    let one : u ≡ get_or w.items 0 u = grind (arith, common_steps) in
-    let other : z ≡ get_or w.items 1 z = grind (arith, common_steps) in
-    let form : d ≡ pair (view u) (view z) = c.in-Some.ensures.found.0 ∙ ap values.array (pair_view w.items u z two one other) in
-    let D = HasDistinctNames (layout_of k) × HasDistinctNames (layout_of v) in
-    passed D tree (IsEntryReading (type_of k) (layout_of k) (type_of v) (layout_of v)) d c.from_residual-in_err-second.result _ c.from_residual-in_err-second.ensures.1 (λ names y r.
-    value_by (type_of k) (layout_of k) (type_of v) (layout_of v) _ y d (view u) (view z) form (c.in_err-second.ensures names.1) r)
-
-pub read_entry-returns-in_err-push : goal.read_entry-returns-in_err-push
-read_entry-returns-in_err-push t c =
-    let k = c.args.key.now in
-    let v = c.args.value.now in
-    let D = HasDistinctNames (layout_of k) × HasDistinctNames (layout_of v) in
-    passed D tree (IsEntryReading (type_of k) (layout_of k) (type_of v) (layout_of v)) (view c.args.json.now) c.from_residual-in_err-push.result _ c.from_residual-in_err-push.ensures.1 (λ names y r. c.in_err-push.ensures.only_out_of_memory)
-
-pub read_entry-returns-in_err-push-2 : goal.read_entry-returns-in_err-push-2
-read_entry-returns-in_err-push-2 t c =
-    let k = c.args.key.now in
-    let v = c.args.value.now in
-    let D = HasDistinctNames (layout_of k) × HasDistinctNames (layout_of v) in
-    passed D tree (IsEntryReading (type_of k) (layout_of k) (type_of v) (layout_of v)) (view c.args.json.now) c.from_residual-in_err-push-2.result _ c.from_residual-in_err-push-2.ensures.1 (λ names y r. c.in_err-push-2.ensures.only_out_of_memory)
-
-pub read_entry-returns : goal.read_entry-returns
-read_entry-returns t c =
-    let d = view c.args.json.now in
-    let k = c.args.key.now in
-    let v = c.args.value.now in
-    let w = c.in-Some.pair.now in
-    let u = c.index.result.now in
-    let z = c.index-2.result.now in
-    let two = c.in-Some.ensures.found.1 in
-    let one : u ≡ get_or w.items 0 u = grind (arith, common_steps) in
-    let other : z ≡ get_or w.items 1 z = grind (arith, common_steps) in
-    let form : d ≡ pair (view u) (view z) = c.in-Some.ensures.found.0 ∙ ap values.array (pair_view w.items u z two one other) in
-    let both = c.push-2.new.values in
-    let held : both.items ≡ c.in_ok-first.first ∷ c.in_ok-second.second ∷ [] =
-    c.in_ok-push-2.ensures.added ∙ ap (λ xs. xs ++ c.in_ok-second.second ∷ []) (c.in_ok-push.ensures.added ∙ ap (λ xs. xs ++ c.in_ok-first.first ∷ []) c.new-parts.ensures.items) in
-    let seen : tree (Group both) ≡ nodes.Group (trees (map tree both.items)) = search (rules, the_lemmas) in
-    let whole : tree (Group both) ≡ entry_tree (tree c.in_ok-first.first) (tree c.in_ok-second.second) = seen ∙ ap (λ xs. nodes.Group (trees (map tree xs))) held in
-    rw whole (entry_only (type_of k) (layout_of k) (type_of v) (layout_of v) (tree c.in_ok-first.first) (tree c.in_ok-second.second) d (view u) (view z) form c.in_ok-first.ensures c.in_ok-second.ensures)
+    let here : j ≡ get_or js h j = grind (arith, common_steps) in
+    let low : h < length js = omega (arith, two, c.requires) in
+    let found : get_item h (items_view js) ≡ Some e = sym (get_item_within js h j low) ∙ ap (λ z. Some (view z)) (sym here) in
+    λ names u r. c.within-in-Err.ensures.memory (c.in-Err.ensures names u (half_from h m x u d (items_view js) e form found r))
 
 -- ---- tuples
 
@@ -415,7 +414,8 @@ read_parts-returns-in_err-value t c =
     let s = c.part-item.result in
     let j = c.index.result.now in
     let whole = c.deref-part-items.ensures.value in
-    let low : i < length ss = rw whole at (omega arith) in
+    let inside : i < length xs = omega arith in
+    let low : i < length ss = rw whole at inside in
     let here : s ≡ get_or ss i s = rw whole at c.part-item.is in
     let there : j ≡ get_or js i j = grind (arith, common_steps) in
     passed (HaveDistinctNames (layouts_of ss)) (λ (v : Vec Value Global). trees (map tree v.items)) (ArePartsReading (types_of ss) (layouts_of ss)) (items_view js) c.from_residual.result _ c.from_residual.ensures.1 (λ names us r.
@@ -490,7 +490,7 @@ read_fields-returns-in_err-value t c =
     let here : n ≡ get_or ns i n = rw whole at c.field-item.is in
     passed (AreNamed (fields_of ns)) (λ (v : Vec Value Global). trees (map tree v.items)) (AreFieldsReading (types_of (contents ns)) (fields_of ns)) d c.from_residual.result _ c.from_residual.ensures.1 (λ names us r.
     let k = field_at ns us d i n r low here in
-    c.in_err-value.ensures (named_at ns i n names low here) k.0 k.1)
+    (rw c.deref.ensures at c.in_err-value.ensures) (named_at ns i n names low here) k.0 k.1)
 
 pub read_fields-returns-in_err-push : goal.read_fields-returns-in_err-push
 read_fields-returns-in_err-push t c =
@@ -503,7 +503,7 @@ read_fields-loop-field-preserved t c =
     let xs = c.deref-field-items.result.now in
     let n = c.field-item.result in
     let next : take (l.field-index + 1) xs ≡ take l.field-index xs ++ n ∷ [] = take_more xs l.field-index n (omega arith) ∙ ap (λ z. take l.field-index xs ++ z ∷ []) (sym c.field-item.is) in
-    rw (c.in_ok-push.ensures.added, next) (fields_more (take l.field-index xs) l.values.items n c.in_ok-value.value (view c.args.json.now) l.invariant c.in_ok-value.ensures)
+    rw (c.in_ok-push.ensures.added, next) (fields_more (take l.field-index xs) l.values.items n c.in_ok-value.value (view c.args.json.now) l.invariant (rw c.deref.ensures at c.in_ok-value.ensures))
 
 pub read_fields-returns : goal.read_fields-returns
 read_fields-returns t c =
@@ -515,19 +515,17 @@ read_fields-returns t c =
 pub read_field-returns-in-Some : goal.read_field-returns-in-Some
 read_field-returns-in-Some t c =
     let d = view c.args.json.now in
-    let n = c.args.field.now in
-    let x = layout_of n.content in
-    let name = string_bytes n.name in
+    let m = type_of c.args.content.now in
+    let x = layout_of c.args.content.now in
+    let name = c.args.name.now in
     let e = view c.in-Some.found.now in
-    let R = IsReading (type_of n.content) x in
-    let found : get name d ≡ Some e = rw (c.as_str.ensures.value, c.in-Some.is) at (sym c.get.ensures) in
-    answer_by (HasDistinctNames x) (HasDistinctNames x) tree R (IsMemberReading name (type_of n.content) x) e d c.read_part.result (λ f. f) (λ u h. (e, found, h)) (λ u h. member_from name R d e u found h) c.read_part.ensures
+    let R = IsReading m x in
+    let found : get name d ≡ Some e = rw c.in-Some.is at (sym c.get.ensures) in
+    answer_by (HasDistinctNames x) (HasDistinctNames x) tree R (IsMemberReading name m x) e d c.read_part.result (λ f. f) (λ u h. (e, found, h)) (λ u h. member_from name R d e u found h) c.read_part.ensures
 
 pub read_field-returns-in-None : goal.read_field-returns-in-None
 read_field-returns-in-None t c =
-    let d = view c.args.json.now in
-    let name = string_bytes c.args.field.now.name in
-    let none : get name d ≡ None = rw (c.as_str.ensures.value, c.in-None.is) at (sym c.get.ensures) in
+    let none : get c.args.name.now (view c.args.json.now) ≡ None = rw c.in-None.is at (sym c.get.ensures) in
     λ names u r. cc (sym none ∙ r.1)
 
 -- ---- variants
@@ -565,7 +563,7 @@ read_variant-returns-in_err-content t c =
     passed (HasDistinctNames (layouts.choice (fields_of ns))) tree (IsReading (types.choice (types_of (contents ns))) (layouts.choice (fields_of ns))) d c.from_residual.result _ c.from_residual.ensures.1 (λ names u r.
     let f = variant_form ns u d r in
     let at = one_index ns i u d names.0 c.index_of-index.ensures.found c.index_of-index.ensures.first f in
-    c.in_err-content.ensures (named_at ns i n names.1 low here) f.content (variant_by ns i n u d low here f at))
+    (rw c.deref-2.ensures at c.in_err-content.ensures) (named_at ns i n names.1 low here) f.content (variant_by ns i n u d low here f at))
 
 pub read_variant-returns-in-Ok-new : goal.read_variant-returns-in-Ok-new
 read_variant-returns-in-Ok-new t c =
@@ -581,45 +579,36 @@ read_variant-returns-in-Ok-new t c =
     let few : c.in-Ok.index < 2 ^ 32 = grind (arith, common_steps) in
     let held : c.in-Ok-new.held.value ≡ v = c.in-Ok-new.ensures.ok in
     let seen : tree (Variant c.in-Ok.index c.in-Ok-new.held) ≡ nodes.Variant c.in-Ok.index (tree v) = rw (← held) (search (rules, the_lemmas)) in
-    rw (seen, same) (variant_only ns i n (tree v) d (rw same at few) low here c.index_of-index.ensures.found c.index_of-index.ensures.first c.in_ok-content.ensures)
+    rw (seen, same) (variant_only ns i n (tree v) d (rw same at few) low here c.index_of-index.ensures.found c.index_of-index.ensures.first (rw c.deref-2.ensures at c.in_ok-content.ensures))
 
 pub read_content-returns-then-is_text : goal.read_content-returns-then-is_text
 read_content-returns-then-is_text t c =
-    let n = c.args.variant.now in
-    let x = layout_of n.content in
+    let x = layout_of c.args.content.now in
     let v = c.new.result in
     let unit = sym c.is_unit.ensures.empty ∙ c.if-is_unit.true in
     let seen : tree (Group v) ≡ nodes.Group (trees (map tree v.items)) = search (rules, the_lemmas) in
     let none : tree (Group v) ≡ nodes.Group nodes.NoTrees = seen ∙ ap (λ vs. nodes.Group (trees (map tree vs))) c.new.ensures.items in
-    let text = c.is_text.ensures.same c.if-is_text.true ∙ ap values.string c.deref.ensures in
-    rw none (unit_only (string_bytes n.name) (type_of n.content) x (view c.args.json.now) unit (c.is_unit.ensures.unit c.if-is_unit.true) text)
+    rw none (unit_only c.args.name.now (type_of c.args.content.now) x (view c.args.json.now) unit (c.is_unit.ensures.unit c.if-is_unit.true) (c.is_text.ensures.same c.if-is_text.true))
 
 pub read_content-returns-then-is_unit : goal.read_content-returns-then-is_unit
 read_content-returns-then-is_unit t c =
-    let n = c.args.variant.now in
-    let x = layout_of n.content in
+    let x = layout_of c.args.content.now in
     let unit = sym c.is_unit.ensures.empty ∙ c.if-is_unit.true in
-    λ names u r.
-    let k = unit_content (string_bytes n.name) x (IsJsonOf x) u (view c.args.json.now) unit r.1 in
-    absurd (c.is_text.ensures.other c.if-is_text.false (k.1 ∙ ap values.string (sym c.deref.ensures)))
+    λ names u r. absurd (c.is_text.ensures.other c.if-is_text.false (unit_content c.args.name.now x (IsJsonOf x) u (view c.args.json.now) unit r.1).1)
 
 pub read_content-returns-in_default : goal.read_content-returns-in_default
 read_content-returns-in_default t c =
-    let n = c.args.variant.now in
-    let x = layout_of n.content in
+    let x = layout_of c.args.content.now in
     let full = sym c.is_unit.ensures.empty ∙ c.if-is_unit.false in
-    λ names u r.
-    let k = other_content (string_bytes n.name) x (IsJsonOf x) u (view c.args.json.now) full r.1 in
-    absurd (c.in_default.ensures.none k.0 (k.1 ∙ ap (λ z. alone z k.0) (sym c.deref-2.ensures)))
+    λ names u r. let k = other_content c.args.name.now x (IsJsonOf x) u (view c.args.json.now) full r.1 in absurd (c.in_default.ensures.none k.0 k.1)
 
 pub read_content-returns : goal.read_content-returns
 read_content-returns t c =
-    let n = c.args.variant.now in
-    let name = string_bytes n.name in
-    let m = type_of n.content in
-    let x = layout_of n.content in
+    let name = c.args.name.now in
+    let m = type_of c.args.content.now in
+    let x = layout_of c.args.content.now in
     let d = view c.args.json.now in
     let e = view c.in-Some.found.now in
     let full = sym c.is_unit.ensures.empty ∙ c.if-is_unit.false in
-    let form = c.in-Some.ensures.found ∙ ap (λ z. alone z e) c.deref-2.ensures in
+    let form = c.in-Some.ensures.found in
     answer_by (HasDistinctNames x) (HasDistinctNames x) tree (IsReading m x) (IsContentReading name m x) e d c.read_part.result (λ f. f) (λ u h. content_to name m x u d e full form h) (λ u h. content_from name m x u d e full form h) c.read_part.ensures

@@ -14,9 +14,9 @@ use Rattle.postcard_value_json_read.proofs.read.+read.Given as goal
 abbrev pub invariant-read_items-loop-i : goal.invariant-read_items-loop-i
 invariant-read_items-loop-i l = AreItems (IsOnly (HasDistinctNames (layout_of l.element)) (IsReading (type_of l.element) (layout_of l.element))) (trees (map tree l.values.items)) (items_view (take l.i l.item-items))
 
-abbrev pub invariant-read_map-loop-i : goal.invariant-read_map-loop-i
-invariant-read_map-loop-i l =
-    AreItems (IsOnly (HasDistinctNames (layout_of l.key) × HasDistinctNames (layout_of l.value)) (IsEntryReading (type_of l.key) (layout_of l.key) (type_of l.value) (layout_of l.value)))
+abbrev pub invariant-read-loop-i : goal.invariant-read-loop-i
+invariant-read-loop-i l = let k = l.key.value in let v = l.value.value in
+    AreItems (IsOnly (HasDistinctNames (layout_of k) × HasDistinctNames (layout_of v)) (IsEntryReading (type_of k) (layout_of k) (type_of v) (layout_of v)))
     (trees (map tree l.entries.items)) (items_view (take l.i l.item-items))
 
 abbrev pub invariant-read_parts-loop-i : goal.invariant-read_parts-loop-i
