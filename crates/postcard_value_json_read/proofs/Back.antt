@@ -1,5 +1,5 @@
 -- JSON that was written is read as the tree that it was written of.
-use Rattle.std.proofs.Common.{◌≡◌, ℕ, zero, suc, ◌+◌, Bool, true, false, List, [], ◌∷◌, ◌++◌, length, codes, Option, Some, None, option_map, is_some, if◌then◌else◌, Ordering, Less, Equal, Greater, nat_cmp, map, string_bytes, refl, sym, ap, subst, ◌∙◌, arith, inl, inr}
+use Rattle.std.proofs.Common.{◌≡◌, ℕ, zero, suc, ◌+◌, Bool, true, false, List, [], ◌∷◌, codes, Option, Some, None, option_map, is_some, if◌then◌else◌, Ordering, Less, Equal, Greater, nat_cmp, map, refl, sym, ap, subst, ◌∙◌, arith, inl, inr}
 use Rattle.std.specs.Cmp.Lexicographic.{slice_cmp}
 use Rattle.std.specs.Ordering.{match_ordering}
 use Rattle.std.specs.Prelude.{option_and_then}
@@ -15,12 +15,11 @@ use Rattle.postcard_schema.specs.Meaning.{MessageType, MessageTypes, contents, e
 use Rattle.postcard_value_text.specs.Layout.{Layout, Layouts, Fields, field_row, layout_of, layout_step, layout_row, no_layouts, then_layout, no_fields, then_field}
 use Rattle.postcard_value_text.specs.Layout as layouts
 use Rattle.serde_json.specs.Data.{Data, Members, null, object, string, no_members, member, put}
-use Rattle.serde_json.specs.Data as values
 use Rattle.serde_json.specs.Events.{members_len}
 use Rattle.serde_json.specs.Find.{get_member}
 use Rattle.serde_json.specs.View.{items_of}
 use Rattle.serde_json.proofs.Views.{get_member-put, get_member-put_other}
-use Rattle.postcard_value_json.specs.Written.{Writer, add_member, all_json, alone, array_json, can_be_null, each_json, entry_json, field_writers, json_at, json_of, list_json, members_json, option_json, parts_json, parts_row, row, struct_json, tuple_json, variant_json, writers}
+use Rattle.postcard_value_json.specs.Written.{Writer, add_member, all_json, alone, array_json, can_be_null, each_json, entry_json, field_writers, json_at, json_of, list_json, members_json, option_json, parts_json, parts_row, row, variant_json, writers}
 use Rattle.postcard_value_json_read.specs.Reading.{Reading, AreFields, AreItems, AreParts, HasMembers, IsArrayJson, IsEntryJson, IsJsonAt, IsJsonOf, IsListJson, IsOptionJson, IsVariantJson, fields_len, pair}
 use Rattle.postcard_value_json_read.proofs.BackLeaves.{leaf_back}
 use Rattle.postcard_value_json_read.proofs.Groups.{some_is}

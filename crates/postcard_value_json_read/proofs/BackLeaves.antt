@@ -1,5 +1,5 @@
 -- The JSON of values without parts that was written is read as the tree that it was written of.
-use Rattle.std.proofs.Common.{◌≡◌, ℕ, ℤ, pos, negsuc, zero, suc, ◌+◌, ◌*◌, ◌%◌, ◌<◌, ◌^◌, neg_ℤ, Bool, true, false, List, [], ◌∷◌, map, length, get_or, Some, if◌then◌else◌, refl, sym, ap, subst, ◌∙◌, arith, mod-eq_of_lt}
+use Rattle.std.proofs.Common.{◌≡◌, ℕ, ℤ, pos, negsuc, zero, suc, ◌*◌, ◌%◌, ◌<◌, ◌^◌, neg_ℤ, Bool, true, false, List, [], ◌∷◌, map, length, get_or, Some, if◌then◌else◌, refl, sym, ap, subst, ◌∙◌, arith, mod-eq_of_lt}
 use Rattle.std.specs.Prelude.{FitsSigned, slice_index, nat_lt, ◌≢◌, reverse}
 use Rattle.std.specs.Char.{encode_utf8, digit_value}
 use Rattle.std.specs.Fmt.{decimal, signed_decimal}

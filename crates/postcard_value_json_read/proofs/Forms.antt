@@ -1,9 +1,9 @@
 -- Which form JSON has, by what looks into it.
-use Rattle.std.proofs.Common.{◌≡◌, ℕ, Bool, true, false, List, Some, None, refl}
+use Rattle.std.proofs.Common.{◌≡◌, ℕ, true, false, List, Some, None, refl}
 use Rattle.std.specs.Prelude.{is_some}
 use Rattle.serde_json.specs.Data.{Data, Num, Items, Members, null, boolean, number, string, object}
 use Rattle.serde_json.specs.Data as values
-use Rattle.serde_json.specs.Find.{as_null, as_bool, as_number, as_str, as_array, as_object}
+use Rattle.serde_json.specs.Find.{as_null, as_str, as_array, as_object}
 
 pub null_is : (d : Data) → is_some (as_null d) ≡ true → d ≡ null
 null_is null e = refl
@@ -13,29 +13,9 @@ pub not_null_is : (d : Data) → is_some (as_null d) ≡ false → d ≡ null �
 not_null_is null e is = cc e
 not_null_is d e is = cc is
 
-pub bool_is : (d : Data) (x : Bool) → Some x ≡ as_bool d → d ≡ boolean x
-bool_is (boolean y) x e = cc e
-bool_is d x e = cc e
-
-pub no_bool : (d : Data) (x : Bool) → None ≡ as_bool d → d ≡ boolean x → ⊥
-no_bool (boolean y) x e is = cc e
-no_bool d x e is = cc is
-
-pub number_is : (d : Data) (n : Num) → Some n ≡ as_number d → d ≡ number n
-number_is (number m) n e = cc e
-number_is d n e = cc e
-
-pub no_number : (d : Data) (n : Num) → None ≡ as_number d → d ≡ number n → ⊥
-no_number (number m) n e is = cc e
-no_number d n e is = cc is
-
 pub string_is : (d : Data) (s : List ℕ) → Some s ≡ as_str d → d ≡ string s
 string_is (string u) s e = cc e
 string_is d s e = cc e
-
-pub no_string : (d : Data) (s : List ℕ) → None ≡ as_str d → d ≡ string s → ⊥
-no_string (string u) s e is = cc e
-no_string d s e is = cc is
 
 pub array_is : (d : Data) (ds : Items) → Some ds ≡ as_array d → d ≡ values.array ds
 array_is (values.array es) ds e = cc e
@@ -48,7 +28,3 @@ no_array d ds e is = cc is
 pub object_is : (d : Data) (ms : Members) → Some ms ≡ as_object d → d ≡ object ms
 object_is (object ns) ms e = cc e
 object_is d ms e = cc e
-
-pub no_object : (d : Data) (ms : Members) → None ≡ as_object d → d ≡ object ms → ⊥
-no_object (object ns) ms e is = cc e
-no_object d ms e is = cc is

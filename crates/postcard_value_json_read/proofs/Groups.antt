@@ -2,7 +2,7 @@
 use Rattle.std.proofs.Common.{◌≡◌, ℕ, zero, suc, ◌<◌, List, [], ◌∷◌, ◌++◌, map, length, get_or, Some, string_bytes, refl, sym, ap, ap₂, subst, ◌∙◌, arith}
 use Rattle.postcard_wire.specs.Tree.{Tree, Trees, NoTrees, Then, trees}
 use Rattle.postcard_wire.specs.Tree as nodes
-use Rattle.postcard_schema.specs.Meaning.{MessageType, contents, group, no_types, reads_all, type_of, types_of}
+use Rattle.postcard_schema.specs.Meaning.{MessageType, contents, group, reads_all, type_of, types_of}
 use Rattle.postcard_schema.specs.declared.schema.Named.{Named}
 use Rattle.postcard_schema.specs.declared.schema.Schema.{Schema}
 use Rattle.postcard_value.specs.declared.value.Value.{Value}
@@ -118,13 +118,6 @@ tuple_only (s ∷ ss) ts ds full (h, one) = (
       let k = tuple_form (s ∷ ss) u (values.array ds) full r in
       k.is ∙ ap nodes.Group (one names k.parts (subst (ArePartsReading (types_of (s ∷ ss)) (layouts_of (s ∷ ss)) k.parts) (same_items ds k.items k.form) k.read)),
 )
-
--- The unit.
-pub unit_only : (d : Data) → d ≡ null → IsOnly (Unit {0}) (IsReading (group no_types) (layouts.tuple no_layouts)) (nodes.Group NoTrees) d
-unit_only d is = (((NoTrees, refl, refl), (refl, is)), λ names u r. r.0.1 ∙ ap nodes.Group r.0.2)
-
-pub unit_other : (u : Tree) (d : Data) → (d ≡ null → ⊥) → IsReading (group no_types) (layouts.tuple no_layouts) u d → ⊥
-unit_other u d other ((us, is, none), h) = other (subst (λ z. IsTupleJson no_layouts (AreParts no_layouts) z d) is h).1
 
 -- ---- entries of maps
 

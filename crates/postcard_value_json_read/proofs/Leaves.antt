@@ -1,5 +1,5 @@
 -- Lemmas on values without parts that are read from JSON.
-use Rattle.std.proofs.Common.{◌≡◌, ℕ, ℤ, ◌<◌, ◌^◌, Bool, true, false, List, [], ◌∷◌, ◌++◌, map, length, refl, sym, ap, subst, ◌∙◌, append-nil}
+use Rattle.std.proofs.Common.{◌≡◌, ℕ, ℤ, Bool, true, false, List, [], ◌∷◌, ◌++◌, map, sym, ap, subst, ◌∙◌, append-nil}
 use Rattle.std.specs.Char.{encode_utf8, IsScalar}
 use Rattle.hex.specs.Hex.{decode_of}
 use Rattle.std.specs.Prelude.{Ok}
@@ -13,7 +13,7 @@ use Rattle.postcard_schema_text.specs.Text.{TakesPhrase, IsSign}
 use Rattle.postcard_value.specs.NumberLemmas.{same_bits}
 use Rattle.postcard_value_text.specs.Floats.{EndsFloat}
 use Rattle.postcard_value_text.specs.Layout as layouts
-use Rattle.serde_json.specs.Data.{Data, boolean, number, string, unsigned, negative}
+use Rattle.serde_json.specs.Data.{Data, number, string, unsigned, negative}
 use Rattle.postcard_value_json_read.specs.Reading.{Reading, IsLeafJson, IsUnsignedJson, IsSignedJson, IsBitsJson}
 use Rattle.postcard_value_json_read.specs.Accepted.{IsOnly, IsReading}
 
@@ -71,14 +71,8 @@ none_by f R S d form none u r = let k = form u r in none k.0 k.2
 abbrev pub LeafReading : Leaf → Reading
 LeafReading l = IsReading (leaf l) (layouts.leaf l)
 
-pub bool_form : (d : Data) (u : Tree) → LeafReading leaves.Bool u d → (x : Bool) × (u ≡ Boolean x) × (d ≡ boolean x)
-bool_form d u ((x, is), h) = (x, is, subst (λ z. IsLeafJson leaves.Bool z d) is h)
-
 pub char_form : (d : Data) (u : Tree) → LeafReading leaves.Char u d → (c : ℕ) × (u ≡ nodes.Char c) × (IsScalar c × (d ≡ string (encode_utf8 c)))
 char_form d u ((c, is, scalar), h) = (c, is, (scalar, subst (λ z. IsLeafJson leaves.Char z d) is h))
-
-pub text_form : (d : Data) (u : Tree) → LeafReading leaves.Str u d → (s : List ℕ) × (u ≡ Text s) × (d ≡ string s)
-text_form d u ((s, is, utf8, few), h) = (s, is, subst (λ z. IsLeafJson leaves.Str z d) is h)
 
 -- The tree of a byte string.
 abbrev pub bytes_tree : List ℕ → Tree

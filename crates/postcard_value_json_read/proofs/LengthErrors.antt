@@ -8,20 +8,12 @@ use Rattle.postcard_schema_text.specs.Names.{IsTakenIn}
 use Rattle.serde_json.specs.Data.{Data}
 use Rattle.serde_json.specs.Find.{get}
 use Rattle.postcard_value_json_read.specs.declared.error.Expected.{Expected}
-use Rattle.postcard_value_json_read.specs.declared.error.Expected.TheVariants.{Absent, ObjectOf, Present}
+use Rattle.postcard_value_json_read.specs.declared.error.Expected.TheVariants.{Present}
 use Rattle.postcard_value_json_read.specs.declared.error.JsonError.{JsonError}
 use Rattle.postcard_value_json_read.specs.declared.error.JsonError.TheVariants.{NotAValue, OutOfMemory}
-use Rattle.postcard_value_json_read.specs.Places.{HasFields, IsAt, IsExpected, IsLengthError, IsWithin}
+use Rattle.postcard_value_json_read.specs.Places.{IsAt, IsLengthError, IsWithin}
 
 module _ (ns : List (Named Schema)) (d : Data) where
-  pub unknown_error : (r : JsonError) → IsExpected Absent r → HasFields ns d → IsLengthError ns d r
-  unknown_error OutOfMemory is all = tt
-  unknown_error (NotAValue path what) is all = subst (λ w. IsLengthError ns d (NotAValue path w)) (sym is) all
-
-  pub object_error : (r : JsonError) (n : ℕ) → IsAt [] (ObjectOf n) r → IsLengthError ns d r
-  object_error OutOfMemory n at = absurd at
-  object_error (NotAValue path what) n at = subst (λ w. IsLengthError ns d (NotAValue path w)) (sym at.1) tt
-
   named : (name : List ℕ) (what : Expected) (path : Path) (r : JsonError) → (plain_path path ≡ []) × (what ≡ Present) → IsAt (at_name name ∷ plain_path path) what r
       → IsTakenIn ns name → ((e : Data) → get name d ≡ Some e → ⊥) → IsLengthError ns d r
   named name what path OutOfMemory at here taken no_member = absurd here

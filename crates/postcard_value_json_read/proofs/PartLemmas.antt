@@ -4,9 +4,8 @@ use Rattle.std.specs.Prelude.{◌==◌, ◌||◌}
 use Rattle.std.proofs.lemmas.Bool.{eqb-true, or_cases}
 use Rattle.std.proofs.lemmas.List.{append_assoc}
 use Rattle.std.specs.Char.{is_ascii_whitespace}
-use Rattle.std.specs.Str.{IsTrimAsciiStart}
-use Rattle.postcard_schema_text.specs.Text.{unblank, AreBlank, Led, Then, TakesPhrase, IsSign}
-use Rattle.postcard_schema_text.specs.FrontLemmas.{pass_head, takes_split, trim_is, unblank_black, unblank_more}
+use Rattle.postcard_schema_text.specs.Text.{unblank, Led, Then, TakesPhrase, IsSign}
+use Rattle.postcard_schema_text.specs.FrontLemmas.{pass_head, takes_split, unblank_black, unblank_more}
 use Rattle.postcard_value_text.proofs.Fronts.{one_rest}
 use Rattle.postcard_schema.specs.Paths.{plain_step}
 use Rattle.postcard_schema.specs.declared.path.Step.{Step}

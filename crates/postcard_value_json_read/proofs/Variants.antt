@@ -8,7 +8,7 @@ use Rattle.postcard_schema.specs.declared.schema.Named.{Named}
 use Rattle.postcard_schema.specs.declared.schema.Schema.{Schema}
 use Rattle.postcard_schema.specs.Lemmas.{content_at}
 use Rattle.postcard_schema.specs.Meaning.{MessageType, contents, group, no_types, choice, type_of, types_of, reads, reads_at}
-use Rattle.postcard_value_text.specs.Accepted.{AreNamed, AreNotCalled, HasDistinctNames, NamesDiffer}
+use Rattle.postcard_value_text.specs.Accepted.{AreNotCalled, HasDistinctNames, NamesDiffer}
 use Rattle.postcard_value_text.specs.Layout.{Layout, tuple, no_layouts, then_layout, fields_of, is_unit, layout_of}
 use Rattle.postcard_value_text.specs.Layout as layouts
 use Rattle.serde_json.specs.declared.value.Value as json

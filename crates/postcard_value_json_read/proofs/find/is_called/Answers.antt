@@ -4,7 +4,7 @@ use Rattle.serde_json.specs.View.{view}
 use Rattle.postcard_value_text.specs.Layout.{layout_of}
 use Rattle.postcard_value_json.specs.Written.{alone}
 use Rattle.postcard_value_json_read.specs.Reading.{IsJsonOf}
-use Rattle.postcard_value_json_read.proofs.Variants.{some_found, unit_content, other_content}
+use Rattle.postcard_value_json_read.proofs.Variants.{some_found, unit_content}
 use Rattle.postcard_value_json_read.proofs.find.is_called.Goals as goal
 
 pub returns-then-is_unit-clause-called : goal.returns-then-is_unit-clause-called

@@ -1,4 +1,4 @@
-use Rattle.std.proofs.Common.{◌≡◌, Some, get_or, is_some, true, false, string_bytes, take, arith, sym, ◌∙◌, ap, refl, rules}
+use Rattle.std.proofs.Common.{◌≡◌, Some, get_or, is_some, true, false, string_bytes, take, arith, sym, ◌∙◌, ap, rules}
 use Rattle.std.proofs.lemmas.Grind.{common_steps}
 use Rattle.std.proofs.lemmas.List.Elements.{All-more}
 use Rattle.serde_json.specs.Data.{Data}

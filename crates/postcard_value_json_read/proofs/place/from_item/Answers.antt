@@ -1,4 +1,4 @@
-use Rattle.std.proofs.Common.{◌≡◌, ℕ, suc, ◌+◌, ◌-◌, List, [], ◌++◌, refl, sym, ap, ◌∙◌, subst, arith}
+use Rattle.std.proofs.Common.{◌≡◌, ℕ, suc, ◌+◌, ◌-◌, List, ◌++◌, refl, sym, ap, ◌∙◌, subst, arith}
 use Rattle.postcard_schema_text.specs.Text.{TakesPhrase, IsSign, unblank}
 use Rattle.postcard_schema_text.specs.FrontLemmas.{takes_split, trim_is}
 use Rattle.postcard_value_json_read.specs.Parts.{AreValues}

@@ -1,5 +1,4 @@
-use Rattle.std.proofs.Common.{◌≡◌, ◌++◌, [], true, false, refl, sym, ap, ◌∙◌, true≢false, inl}
-use Rattle.postcard_value_json_read.specs.Values.{IsEndOf}
+use Rattle.std.proofs.Common.{◌++◌, [], refl, sym, ap, ◌∙◌, true≢false, inl}
 use Rattle.postcard_value_json_read.proofs.Ends.{blanks_off, end_of_end, none_left, sign_off}
 use Rattle.postcard_value_json_read.proofs.MemberLemmas.{Finds, Held, Key, colon_ahead, ended, finds_here, finds_kept, members_of, turn}
 use Rattle.postcard_value_json_read.proofs.place.from_member.Goals.{then-branch, else-branch}

@@ -1,4 +1,4 @@
-use Rattle.std.proofs.Common.{◌+◌, ◌<◌, length, map, sym, subst, arith}
+use Rattle.std.proofs.Common.{◌<◌, length, map, sym, subst, arith}
 use native.Mathlib.Numerals.{add-one}
 use Rattle.postcard_schema.specs.Paths.{plain_step}
 use Rattle.postcard_schema_text.specs.FrontLemmas.{trim_is}

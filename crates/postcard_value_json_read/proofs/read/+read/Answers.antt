@@ -1,4 +1,4 @@
-use Rattle.std.proofs.Common.{◌≡◌, None, Some, ◌+◌, ◌<◌, ◌^◌, ◌++◌, true, false, [], ◌∷◌, map, take, length, vec_len, get_or, codes, string_bytes, Vec, Global, sym, ap, subst, ◌∙◌, true≢false, take_all, arith, rules}
+use Rattle.std.proofs.Common.{◌≡◌, None, Some, ◌+◌, ◌<◌, ◌^◌, ◌++◌, true, false, [], ◌∷◌, map, take, length, vec_len, get_or, codes, Vec, Global, sym, ap, subst, ◌∙◌, true≢false, take_all, arith, rules}
 use Rattle.std.specs.Prelude.{is_some}
 use Rattle.std.specs.Bool.{◌==◌}
 use Rattle.std.proofs.lemmas.Bool.Decides.{Decides-ltb}
@@ -21,7 +21,7 @@ use Rattle.serde_json.proofs.Views.{get_item_within, items_len-items_view}
 use Rattle.serde_json.specs.Events.{items_len}
 use Rattle.serde_json.specs.Find.{get, get_item}
 use Rattle.serde_json.specs.View.{view, items_view}
-use Rattle.postcard_value_json.specs.Written.{alone, can_be_null}
+use Rattle.postcard_value_json.specs.Written.{can_be_null}
 use Rattle.postcard_value_json_read.specs.Reading.{AreItems, IsEntryJson, IsJsonOf}
 use Rattle.postcard_value_json_read.specs.Accepted.{AreFieldsReading, ArePartsReading, IsContentReading, IsEntryReading, IsMemberReading, IsOnly, IsReading, Reads}
 use Rattle.postcard_value_json_read.proofs.Forms.{null_is, not_null_is, array_is, no_array}
