@@ -1,0 +1,30 @@
+-- Which form JSON has, by what looks into it.
+use Rattle.std.proofs.Common.{◌≡◌, ℕ, true, false, List, Some, None, refl}
+use Rattle.std.specs.Prelude.{is_some}
+use Rattle.serde_json.specs.Data.{Data, Num, Items, Members, null, boolean, number, string, object}
+use Rattle.serde_json.specs.Data as values
+use Rattle.serde_json.specs.Find.{as_null, as_str, as_array, as_object}
+
+pub null_is : (d : Data) → is_some (as_null d) ≡ true → d ≡ null
+null_is null e = refl
+null_is d e = cc e
+
+pub not_null_is : (d : Data) → is_some (as_null d) ≡ false → d ≡ null → ⊥
+not_null_is null e is = cc e
+not_null_is d e is = cc is
+
+pub string_is : (d : Data) (s : List ℕ) → Some s ≡ as_str d → d ≡ string s
+string_is (string u) s e = cc e
+string_is d s e = cc e
+
+pub array_is : (d : Data) (ds : Items) → Some ds ≡ as_array d → d ≡ values.array ds
+array_is (values.array es) ds e = cc e
+array_is d ds e = cc e
+
+pub no_array : (d : Data) (ds : Items) → None ≡ as_array d → d ≡ values.array ds → ⊥
+no_array (values.array es) ds e is = cc e
+no_array d ds e is = cc is
+
+pub object_is : (d : Data) (ms : Members) → Some ms ≡ as_object d → d ≡ object ms
+object_is (object ns) ms e = cc e
+object_is d ms e = cc e

@@ -1,0 +1,14 @@
+pub mod Forms
+pub mod Answered
+pub mod Groups
+pub mod Variants
+pub mod Leaves
+pub mod LengthErrors
+pub mod LineLemmas
+pub mod ValueLemmas
+pub mod BackFloats
+pub mod BackLeaves
+pub mod Back
+pub mod Ends
+pub mod PartLemmas
+pub mod MemberLemmas

@@ -1,0 +1,9 @@
+use Rattle.std.proofs.Common.{◌≡◌, ℕ, List, ◌∷◌, ◌++◌, length}
+use Rattle.postcard_value_json_read.specs.Lines.{IsLine}
+use Rattle.postcard_value_json_read.proofs.place.after_line.Given as goal
+
+abbrev pub invariant-bytes : goal.invariant-bytes
+invariant-bytes l = (line : List ℕ) (rest : List ℕ) → IsLine line → l.fn.text ≡ line ++ 10 ∷ rest → (more : List ℕ) × IsLine more × (l.left ≡ more ++ 10 ∷ rest)
+
+abbrev pub decreases-bytes : goal.decreases-bytes
+decreases-bytes l = length l.left

@@ -1,0 +1,16 @@
+-- The last member with the name is ahead, or it was found and only others are ahead.
+use Rattle.std.proofs.Common.{◌≡◌, List, ℕ, length, ◌⊎◌}
+use Rattle.postcard_value_json_read.specs.Parts.{IsMemberAt}
+use Rattle.postcard_value_json_read.specs.Values.{IsEndOf}
+use Rattle.postcard_value_json_read.proofs.MemberLemmas.{IsAhead, AreAhead}
+use Rattle.postcard_value_json_read.proofs.place.from_member.Given as goal
+
+abbrev pub invariant-members : goal.invariant-members
+invariant-members l = record {
+  member : (rest : List ℕ) → IsMemberAt l.fn.name l.fn.object rest → IsAhead l.fn.name l.rest rest ⊎ (AreAhead l.fn.name l.rest × (l.found ≡ rest));
+  found : IsEndOf l.fn.object l.found;
+  left : IsEndOf l.fn.object l.rest;
+}
+
+abbrev pub decreases-members : goal.decreases-members
+decreases-members l = length l.rest

@@ -1,0 +1,1 @@
+-- The clauses are proved by the search alone. With this file the function is tried where a function that it calls is refused.
