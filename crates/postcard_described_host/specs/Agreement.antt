@@ -16,8 +16,8 @@ use Rattle.postcard_described.specs.SameBytes.{SameBytes}
 abbrev pub Reading : Type 0 → Type 0
 Reading V = Result (V × Bor (List ℕ)) Error
 
--- A call of a host that has a schema of these messages returned the reading. It keeps the contract of a device whose type is
--- `Value`, allocates, and has these messages.
+-- A host that has a schema of these messages returned this reading of the bytes. Its contract is that of a device whose type is
+-- `Value`, allocates, and reads these messages.
 abbrev pub HostTakes : MessageType → List ℕ → Reading Value → Type 0
 HostTakes messages = TakesFromBytes (growing (shape_of messages))
 
@@ -25,8 +25,9 @@ HostTakes messages = TakesFromBytes (growing (shape_of messages))
 abbrev pub HostReads : Tree → List ℕ → Reading Value → Type 0
 HostReads t rest host = MatchResult host (λ read. SameBytes t (tree read.0) × (read.1.now ≡ rest)) (λ e. e ≡ OutOfMemory)
 
--- What the device reads, the host reads: its tree, and the same remaining bytes. What the device refuses, the host refuses. Only a
--- device that runs out of memory refuses alone, and only for a type that allocates.
+-- The device and the host agree. If the device read a value, the host read a value of the same tree, and left the same bytes. If the
+-- device refused the bytes, the host refused them. A reader that runs out of memory may refuse alone: the host for every type, and the
+-- device only for a type that allocates.
 abbrev pub Agree : {V : Type 0} → Shape V → Reading V → Reading Value → Type 0
 Agree shape (Ok device) host = (t : Tree) × shape.value t device.0 × HostReads t device.1.now host
 Agree shape (Err e) (Ok host) = (e ≡ OutOfMemory) × Grows shape

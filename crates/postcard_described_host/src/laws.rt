@@ -6,14 +6,14 @@ ghost use Rattle.postcard_described_host.specs.{Reading, Value, canonical, tree}
 
 use postcard_described::HasSchema;
 
-/// A host that has only the schema reads what the device reads that has the type. If both are given
-/// the same bytes and the device returns a value, they agree. If the type is exact, they agree
-/// always: what the device refuses, the host refuses.
+/// A host that has only the schema reads what a device reads that has the type. Both are given the
+/// same bytes. If the device returns a value, they agree. If the type is exact, they always agree:
+/// what the device refuses, the host refuses.
 pub fn host_reads<T: HasSchema>()
-    ensures values { (bytes : List ℕ) (device : Reading T) (host : Reading Value)
+    ensures agree_on_values { (bytes : List ℕ) (device : Reading T) (host : Reading Value)
         → TakesFromBytes T.shape bytes device → HostTakes T.described.message bytes host
         → IfOk device (λ _. Agree T.shape device host) }
-    ensures all { T.described.exact → (bytes : List ℕ) (device : Reading T) (host : Reading Value)
+    ensures agree_if_exact { T.described.exact → (bytes : List ℕ) (device : Reading T) (host : Reading Value)
         → TakesFromBytes T.shape bytes device → HostTakes T.described.message bytes host
         → Agree T.shape device host }
 {}

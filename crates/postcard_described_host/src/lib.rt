@@ -1,6 +1,6 @@
 //! A host that has only a type's schema reads exactly the messages of the device that has the type.
 //!
-//! [`laws`] states the theorem for any two readers that keep the contracts of
+//! [`laws`] states the theorem for any two readers that meet the contracts of
 //! `postcard_de::take_from_bytes` and `postcard_value::take_from_bytes`. [`read_as_both`] makes
 //! both calls on the same bytes, and its contract is the theorem on what they return.
 //!

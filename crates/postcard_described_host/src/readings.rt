@@ -1,4 +1,4 @@
-//! One message, read by its type and by the schema of the type.
+//! One message, read by its type and by the type's schema.
 
 ghost use Rattle.std.specs.Prelude.{◌≡◌, IfErr, IfOk};
 ghost use Rattle.postcard_described_host.specs.{Agree, HostTakes, TakesFromBytes};
@@ -19,22 +19,22 @@ pub struct Readings<'a, T> {
     pub host: Result<(Value, &'a [u8])>,
 }
 
-/// Reads a value from the front of `bytes` twice: as a device does that has the type, and as a host
-/// does that has only its schema.
+/// Reads a value from the start of `bytes` twice: as a device that has the type, and as a host that
+/// has only its schema. Returns both results.
 ///
 /// # Errors
 ///
-/// Fails with `OutOfMemory` if there is no memory for the schema. An error in reading is in the
-/// result.
+/// Fails with `OutOfMemory` if there is no memory for the schema. An error of either reader stands
+/// in its field.
 pub fn read_as_both<'a, T: Deserialize<'a> + HasSchema>(
     alloc: Global,
     bytes: &'a [u8],
 ) -> Result<Readings<'a, T>>
-    ensures device { IfOk result (λ both. TakesFromBytes T.shape bytes.now both.device) }
-    ensures host { IfOk result (λ both. HostTakes T.described.message bytes.now both.host) }
-    ensures values { IfOk result (λ both.
+    ensures device_reads { IfOk result (λ both. TakesFromBytes T.shape bytes.now both.device) }
+    ensures host_reads { IfOk result (λ both. HostTakes T.described.message bytes.now both.host) }
+    ensures agree_on_values { IfOk result (λ both.
         IfOk both.device (λ _. Agree T.shape both.device both.host)) }
-    ensures all { T.described.exact → IfOk result (λ both.
+    ensures agree_if_exact { T.described.exact → IfOk result (λ both.
         Agree T.shape both.device both.host) }
     ensures only_out_of_memory { IfErr result (λ e. e ≡ Error.OutOfMemory) }
 {
