@@ -13,7 +13,8 @@ pub fn host_reads<T: HasSchema>()
     ensures agree_on_values { (bytes : List ℕ) (device : Reading T) (host : Reading Value)
         → TakesFromBytes T.shape bytes device → HostTakes T.described.message bytes host
         → IfOk device (λ _. Agree T.shape device host) }
-    ensures agree_if_exact { T.described.exact → (bytes : List ℕ) (device : Reading T) (host : Reading Value)
+    ensures agree_if_exact { T.described.exact
+        → (bytes : List ℕ) (device : Reading T) (host : Reading Value)
         → TakesFromBytes T.shape bytes device → HostTakes T.described.message bytes host
         → Agree T.shape device host }
 {}
