@@ -1,6 +1,4 @@
-//! Tests of the crates for types known only at run time: expressions, messages, the texts and the
-//! JSON of values, all of these from end to end, the calls of `pcard`, files of declarations, and the
-//! impls written for their types.
+//! Tests of the calls of `pcard`, of files of declarations, and of the impls written for their types.
 #![tactic(auto)]
 
 #[cfg(test)]
@@ -14,10 +12,6 @@ mod declarations;
 #[cfg(test)]
 mod explain;
 #[cfg(test)]
-mod expressions;
-#[cfg(test)]
-mod floats;
-#[cfg(test)]
 mod frames;
 #[cfg(test)]
 mod held;
@@ -28,19 +22,11 @@ mod impls;
 #[cfg(test)]
 mod input_files;
 #[cfg(test)]
-mod json;
-#[cfg(test)]
 mod json_calls;
-#[cfg(test)]
-mod limits;
 #[cfg(test)]
 mod output;
 #[cfg(test)]
 mod pasted;
-#[cfg(test)]
-mod random;
-#[cfg(test)]
-mod refused;
 #[cfg(test)]
 mod same;
 #[cfg(test)]
@@ -48,8 +34,4 @@ mod size;
 #[cfg(test)]
 mod syntax;
 #[cfg(test)]
-mod texts;
-#[cfg(test)]
 mod type_files;
-#[cfg(test)]
-mod vectors;

@@ -2,7 +2,7 @@
 
 use crate::helpers::{check_text, check_texts, check_type, nested, text_with, type_of};
 use crate::same::same;
-use postcard_dyn_text::read_text;
+use postcard_value_text::read_text;
 use std::process::Abort;
 
 /// Types and texts, each beside the text that is printed of the value.

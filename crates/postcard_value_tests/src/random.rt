@@ -3,8 +3,8 @@
 
 use crate::helpers::{check_read, check_written, encoded, text_of, type_of};
 use crate::same::same;
-use postcard_dyn::explain::explain;
-use postcard_dyn::{Schema, Value, refused_at, take_from_bytes};
+use postcard_explain::explain;
+use postcard_value::{Schema, Value, refused_at, take_from_bytes};
 use postcard_wire::Error;
 use std::process::Abort;
 
@@ -73,7 +73,7 @@ fn check_lines(
     message: &[u8],
     error: Option<&Error>,
 ) -> usize {
-    let told = explain(rt.alloc(), schema, 3, message).expect(rt, "it disagrees with reading");
+    let told = explain(rt.alloc(), schema, 3, message).expect(rt, "memory");
     same(rt, told.refused.as_ref(), error, message);
     match told.lines.as_slice() {
         [.., last] => last.bytes.len(),

@@ -2,7 +2,7 @@
 
 use crate::helpers::{check_text, check_texts, type_of, value_of};
 use crate::same::same;
-use postcard_dyn::Value;
+use postcard_value::Value;
 use std::process::Abort;
 
 /// Types, each beside the text of a value as it is printed.

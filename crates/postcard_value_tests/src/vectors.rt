@@ -2,7 +2,7 @@
 
 use crate::helpers::{check_read, check_refused, check_written, decoded, encoded, type_of};
 use crate::same::same;
-use postcard_dyn::Schema;
+use postcard_value::Schema;
 use postcard_wire::Error;
 use std::process::Abort;
 

@@ -2,7 +2,8 @@
 
 use crate::helpers::{text_of, type_of, value_of};
 use crate::same::same;
-use postcard_dyn_json::{from_json, json_text, read_json, to_json};
+use postcard_value_json::{json_text, to_json};
+use postcard_value_json_read::{from_json, read_json};
 use serde_json::Value as Json;
 use std::process::Abort;
 

@@ -2,110 +2,140 @@
 
 use crate::helpers::{check_type, nested};
 use crate::same::same;
-use postcard_dyn_schema::parse;
+use postcard_schema_text::parse;
 use std::process::Abort;
 
 /// Expressions, each beside the schema that is read from it, printed by `Debug`.
 const TYPES: [(&str, &str); 54] = [
-    ("u8", "Leaf(U8)"),
-    (" usize ", "Leaf(U64)"),
-    ("u16??", "Option(Option(Leaf(U16)))"),
-    ("u8????", "Option(Option(Option(Option(Leaf(U8)))))"),
-    ("[ i32 ]", "Seq(Leaf(I32))"),
+    ("u8", "Leaf(Integer(U8))"),
+    (" usize ", "Leaf(Integer(U64))"),
+    ("u16??", "Option(Option(Leaf(Integer(U16))))"),
+    (
+        "u8????",
+        "Option(Option(Option(Option(Leaf(Integer(U8))))))",
+    ),
+    ("[ i32 ]", "Seq(Leaf(Integer(I32)))"),
     ("[str; 12]", "Array(Leaf(Str), 12)"),
-    ("()", "Group([])"),
+    ("()", "Tuple([])"),
     ("(bool)", "Leaf(Bool)"),
-    ("(bool,)", "Group([Leaf(Bool)])"),
-    ("(bool , char,)", "Group([Leaf(Bool), Leaf(Char)])"),
-    ("{id:u8}", "Group([Named(\"id\", Leaf(U8))])"),
+    ("(bool,)", "Tuple([Leaf(Bool)])"),
+    ("(bool , char,)", "Tuple([Leaf(Bool), Leaf(Char)])"),
+    (
+        "{id:u8}",
+        "Struct([Named { name: \"id\", content: Leaf(Integer(U8)) }])",
+    ),
     (
         "{u8: i8, _x: (),}",
-        "Group([Named(\"u8\", Leaf(I8)), Named(\"_x\", Group([]))])",
+        "Struct([Named { name: \"u8\", content: Leaf(Integer(I8)) }, Named { name: \"_x\", \
+         content: Tuple([]) }])",
     ),
-    ("{str => bytes}", "Map(Group([Leaf(Str), Leaf(Bytes)]))"),
+    ("{str => bytes}", "Map(Leaf(Str), Leaf(Bytes))"),
     (
         "A|B",
-        "Enum([Named(\"A\", Group([])), Named(\"B\", Group([]))])",
+        "Enum([Named { name: \"A\", content: Tuple([]) }, Named { name: \"B\", content: \
+         Tuple([]) }])",
     ),
-    ("|A(u8)", "Enum([Named(\"A\", Leaf(U8))])"),
+    (
+        "|A(u8)",
+        "Enum([Named { name: \"A\", content: Leaf(Integer(U8)) }])",
+    ),
     (
         "Boot | Reading(u16, i32) | Fault{code: u8}",
-        "Enum([Named(\"Boot\", Group([])), Named(\"Reading\", Group([Leaf(U16), Leaf(I32)])), \
-         Named(\"Fault\", Group([Named(\"code\", Leaf(U8))]))])",
+        "Enum([Named { name: \"Boot\", content: Tuple([]) }, Named { name: \"Reading\", \
+         content: Tuple([Leaf(Integer(U16)), Leaf(Integer(I32))]) }, Named { name: \
+         \"Fault\", content: Struct([Named { name: \"code\", content: \
+         Leaf(Integer(U8)) }]) }])",
     ),
     (
         "(A|B)?",
-        "Option(Enum([Named(\"A\", Group([])), Named(\"B\", Group([]))]))",
+        "Option(Enum([Named { name: \"A\", content: Tuple([]) }, Named { name: \"B\", \
+         content: Tuple([]) }]))",
     ),
-    ("{() => u8}", "Map(Group([Group([]), Leaf(U8)]))"),
-    ("[u8; 0]", "Array(Leaf(U8), 0)"),
-    ("(f32, f64)", "Group([Leaf(F32), Leaf(F64)])"),
-    ("Vec<u8>", "Seq(Leaf(U8))"),
-    ("Vec < Vec<u16> >", "Seq(Seq(Leaf(U16)))"),
-    ("Option<u8>?", "Option(Option(Leaf(U8)))"),
+    ("{() => u8}", "Map(Tuple([]), Leaf(Integer(U8)))"),
+    ("[u8; 0]", "Array(Leaf(Integer(U8)), 0)"),
+    ("(f32, f64)", "Tuple([Leaf(Float(F32)), Leaf(Float(F64))])"),
+    ("Vec<u8>", "Seq(Leaf(Integer(U8)))"),
+    ("Vec < Vec<u16> >", "Seq(Seq(Leaf(Integer(U16))))"),
+    ("Option<u8>?", "Option(Option(Leaf(Integer(U8))))"),
     ("Box<str>", "Leaf(Str)"),
-    ("BTreeMap<u8, bool>", "Map(Group([Leaf(U8), Leaf(Bool)]))"),
+    ("BTreeMap<u8, bool>", "Map(Leaf(Integer(U8)), Leaf(Bool))"),
     (
         "HashMap<String, Vec<u8>>",
-        "Map(Group([Leaf(Str), Seq(Leaf(U8))]))",
+        "Map(Leaf(Str), Seq(Leaf(Integer(U8))))",
     ),
     (
         "Result<(), u8>",
-        "Enum([Named(\"Ok\", Group([])), Named(\"Err\", Leaf(U8))])",
+        "Enum([Named { name: \"Ok\", content: Tuple([]) }, Named { name: \"Err\", content: \
+         Leaf(Integer(U8)) }])",
     ),
     ("LE<u16>", "Leaf(Fixed(Little, U16))"),
     ("[BE < Box<isize> >]", "Seq(Leaf(Fixed(Big, I64)))"),
     (
         "LE | BE(LE<(i128)>)",
-        "Enum([Named(\"LE\", Group([])), Named(\"BE\", Leaf(Fixed(Little, I128)))])",
+        "Enum([Named { name: \"LE\", content: Tuple([]) }, Named { name: \"BE\", content: \
+         Leaf(Fixed(Little, I128)) }])",
     ),
     ("String", "Leaf(Str)"),
     ("[String; 2]", "Array(Leaf(Str), 2)"),
     (
         "{name: String, data: Option<Vec<u8>>}",
-        "Group([Named(\"name\", Leaf(Str)), Named(\"data\", Option(Seq(Leaf(U8))))])",
+        "Struct([Named { name: \"name\", content: Leaf(Str) }, Named { name: \"data\", \
+         content: Option(Seq(Leaf(Integer(U8)))) }])",
     ),
     (
         "Vec<A | B>",
-        "Seq(Enum([Named(\"A\", Group([])), Named(\"B\", Group([]))]))",
+        "Seq(Enum([Named { name: \"A\", content: Tuple([]) }, Named { name: \"B\", content: \
+         Tuple([]) }]))",
     ),
-    ("{Vec<u8>=>u8}", "Map(Group([Seq(Leaf(U8)), Leaf(U8)]))"),
+    (
+        "{Vec<u8>=>u8}",
+        "Map(Seq(Leaf(Integer(U8))), Leaf(Integer(U8)))",
+    ),
     (
         "String | Vec",
-        "Enum([Named(\"String\", Group([])), Named(\"Vec\", Group([]))])",
+        "Enum([Named { name: \"String\", content: Tuple([]) }, Named { name: \"Vec\", \
+         content: Tuple([]) }])",
     ),
     (
         "Vec(u8) | Option{a: u8}",
-        "Enum([Named(\"Vec\", Leaf(U8)), Named(\"Option\", Group([Named(\"a\", Leaf(U8))]))])",
+        "Enum([Named { name: \"Vec\", content: Leaf(Integer(U8)) }, Named { name: \
+         \"Option\", content: Struct([Named { name: \"a\", content: \
+         Leaf(Integer(U8)) }]) }])",
     ),
-    ("{String: u8}", "Group([Named(\"String\", Leaf(U8))])"),
+    (
+        "{String: u8}",
+        "Struct([Named { name: \"String\", content: Leaf(Integer(U8)) }])",
+    ),
     ("&str", "Leaf(Str)"),
     ("&'a str", "Leaf(Str)"),
-    ("&'static f32", "Leaf(F32)"),
+    ("&'static f32", "Leaf(Float(F32))"),
     ("& '_ bool", "Leaf(Bool)"),
-    ("&[u8]", "Seq(Leaf(U8))"),
-    ("&'a[u16; 2]", "Array(Leaf(U16), 2)"),
-    ("& ' b2 [i8]", "Seq(Leaf(I8))"),
-    ("&&'a & u16", "Leaf(U16)"),
-    ("&u8?", "Option(Leaf(U8))"),
-    ("&'a u8??", "Option(Option(Leaf(U8)))"),
+    ("&[u8]", "Seq(Leaf(Integer(U8)))"),
+    ("&'a[u16; 2]", "Array(Leaf(Integer(U16)), 2)"),
+    ("& ' b2 [i8]", "Seq(Leaf(Integer(I8)))"),
+    ("&&'a & u16", "Leaf(Integer(U16))"),
+    ("&u8?", "Option(Leaf(Integer(U8)))"),
+    ("&'a u8??", "Option(Option(Leaf(Integer(U8))))"),
     ("[&str]", "Seq(Leaf(Str))"),
     ("Option<&'a String>", "Option(Leaf(Str))"),
     (
         "&HashMap<&str, &[u16]>",
-        "Map(Group([Leaf(Str), Seq(Leaf(U16))]))",
+        "Map(Leaf(Str), Seq(Leaf(Integer(U16))))",
     ),
     (
         "&(A | B)",
-        "Enum([Named(\"A\", Group([])), Named(\"B\", Group([]))])",
+        "Enum([Named { name: \"A\", content: Tuple([]) }, Named { name: \"B\", content: \
+         Tuple([]) }])",
     ),
     (
         "A(&str) | B{x: &'a u8}",
-        "Enum([Named(\"A\", Leaf(Str)), Named(\"B\", Group([Named(\"x\", Leaf(U8))]))])",
+        "Enum([Named { name: \"A\", content: Leaf(Str) }, Named { name: \"B\", content: \
+         Struct([Named { name: \"x\", content: Leaf(Integer(U8)) }]) }])",
     ),
     (
         "&{name: &'a str, data: &'a [u8]}",
-        "Group([Named(\"name\", Leaf(Str)), Named(\"data\", Seq(Leaf(U8)))])",
+        "Struct([Named { name: \"name\", content: Leaf(Str) }, Named { name: \"data\", \
+         content: Seq(Leaf(Integer(U8))) }])",
     ),
 ];
 

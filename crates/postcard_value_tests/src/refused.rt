@@ -2,7 +2,7 @@
 
 use crate::helpers::{check_refused, type_of};
 use crate::same::same;
-use postcard_dyn::refused_at;
+use postcard_value::refused_at;
 use postcard_wire::Error;
 use std::process::Abort;
 
@@ -120,8 +120,13 @@ fn check(
     let schema = type_of(rt, expression);
     check_refused(rt, &schema, message, error);
     let found = refused_at(rt.alloc(), &schema, message).expect(rt, "memory");
-    let found = (found.offset, found.path.as_str());
-    same(rt, found, place, (expression, message));
+    let path = format!(in rt.alloc(); "{}", found.path).expect(rt, "memory");
+    same(
+        rt,
+        (found.offset, path.as_str()),
+        place,
+        (expression, message),
+    );
 }
 
 #[test]
