@@ -18,6 +18,10 @@ use Rattle.postcard_value_json_read.specs.declared.error.JsonError.{JsonError}
 use Rattle.postcard_value_json_read.specs.declared.error.JsonError.TheVariants.{OutOfMemory}
 use Rattle.postcard_value_json_read.specs.Reading.{Reading, IsJsonOf, IsEntryJson, IsVariantJson, AreParts, AreFields, IsMember}
 
+-- The tree of an entry of a map.
+abbrev pub entry_tree : Tree → Tree → Tree
+entry_tree key value = nodes.Group (Then key (Then value NoTrees))
+
 -- The JSON is read by R as the tree, which is one of P.
 abbrev pub IsBoth : (Tree → Type 0) → Reading → Reading
 IsBoth P R t d = P t × R t d
@@ -25,10 +29,6 @@ IsBoth P R t d = P t × R t d
 -- The same of a type.
 abbrev pub IsReading : MessageType → Layout → Reading
 IsReading m x = IsBoth (reads m) (IsJsonOf x)
-
--- The tree of an entry of a map.
-abbrev pub entry_tree : Tree → Tree → Tree
-entry_tree key value = nodes.Group (Then key (Then value NoTrees))
 
 -- The same of an entry of a map.
 abbrev pub IsEntryReading : (key : MessageType) → Layout → (value : MessageType) → Layout → Reading

@@ -34,7 +34,7 @@ pub use Rattle.postcard_value_json_read.specs.Accepted.{IsReading, Reads, entry_
 pub use Rattle.postcard_value_json_read.specs.Lines.{AreLines, IsLine}
 pub use Rattle.postcard_value_json_read.specs.Places.{HasFields, HasPath, IsAt, IsErrorIn}
 pub use Rattle.postcard_value_json_read.specs.Places.{IsExpected, IsLengthError, IsPlaceAfter}
-pub use Rattle.postcard_value_json_read.specs.Places.{IsPlaceIn, IsPlaceOf, IsWithin}
+pub use Rattle.postcard_value_json_read.specs.Places.{IsPlaceIn, IsPlaceOf, IsTextError, IsWithin}
 pub use Rattle.postcard_value_json_read.specs.Parts.{IsItemAt, IsMemberAt, IsPartAt, LeadsTo}
 pub use Rattle.postcard_value_json_read.specs.Printed.{colon_after, expected_text, json_error_text}
 pub use Rattle.postcard_value_json_read.specs.Printed.{members_text, text_error_text}

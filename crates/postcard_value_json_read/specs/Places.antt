@@ -1,7 +1,8 @@
 -- The places of errors: their paths in the JSON, and the characters at which they begin in a text.
-use Rattle.std.specs.Prelude.{◌≡◌, ℕ, ◌+◌, ◌-◌, ◌≤◌, ◌⊎◌, List, [], ◌∷◌, length, take, Some, string_bytes}
+use Rattle.std.specs.Prelude.{◌≡◌, ℕ, ◌+◌, ◌-◌, ◌≤◌, ◌⊎◌, List, [], ◌∷◌, length, map, take, Some, string_bytes}
 use Rattle.std.specs.List.{All}
-use Rattle.postcard_schema.specs.Paths.{PlainStep, at_name, path_text, plain_path}
+use Rattle.postcard_schema.specs.Paths.{PlainStep, at_name, path_text, plain_path, plain_step}
+use Rattle.postcard_schema.specs.declared.path.Step.{Step}
 use Rattle.postcard_schema.specs.declared.schema.Named.{Named}
 use Rattle.postcard_schema.specs.declared.schema.Schema.{Schema}
 use Rattle.postcard_schema_text.specs.Names.{IsTakenIn}
@@ -64,6 +65,14 @@ HasPath text expected text_errors.OutOfMemory = Unit {0}
 -- The place is that of the part at this path, if the text has it.
 abbrev pub IsPlaceOf : List PlainStep → List ℕ → JsonTextError → Type 0
 IsPlaceOf path text e = (rest : List ℕ) → IsPartAt path text rest → IsPlaceAfter (characters (take (length text - length rest) text)) e
+
+-- The text isn't JSON, or the place is that of the part to which the steps lead, and the path has their text.
+abbrev pub IsTextError : List ℕ → JsonTextError → Type 0
+IsTextError text (text_errors.NotAValue character path expected) =
+    ((expected ≡ places.Json) × (string_bytes path ≡ []))
+    ⊎ ((steps : List Step) × (string_bytes path ≡ path_text steps)
+    × IsPlaceOf (map plain_step steps) text (text_errors.NotAValue character path expected))
+IsTextError text text_errors.OutOfMemory = Unit {0}
 
 -- The second error is the first one, as that of the text.
 abbrev pub IsErrorIn : List ℕ → JsonError → JsonTextError → Type 0

@@ -1,11 +1,11 @@
 //! Reading a value from a JSON text: [`read_json`].
 
 ghost use Rattle.std.specs.Prelude.{◌≡◌, ◌-◌, Some, IfOk, IfErr, MatchResult, length, take};
-ghost use Rattle.std.specs.Prelude.{string_bytes};
+ghost use Rattle.std.specs.Prelude.{[], string_bytes};
 ghost use Rattle.postcard_value_json_read.specs.{Category, HasDistinctNames, HasPath, IsErrorIn};
 ghost use Rattle.postcard_value_json_read.specs.{IsJsonText, IsMemory, IsPlaceAfter, IsPlaceIn};
-ghost use Rattle.postcard_value_json_read.specs.{IsPlaceOf, Tree, category, characters, layout_of};
-ghost use Rattle.postcard_value_json_read.specs.{path_text, plain_path, reads, text_error_text};
+ghost use Rattle.postcard_value_json_read.specs.{IsPlaceOf, IsTextError, Tree, category, characters};
+ghost use Rattle.postcard_value_json_read.specs.{layout_of, path_text, plain_path, reads, text_error_text};
 ghost use Rattle.postcard_value_json_read.specs.{tree, type_of};
 
 use crate::error::{Expected, JsonError, colon_after};
@@ -71,6 +71,7 @@ pub fn read_json(alloc: Global, schema: &Schema, text: &str) -> Result<Value, Js
         → reads (type_of schema.now) t → IsJsonText (layout_of schema.now) t text.now
         → MatchResult result (λ v. t ≡ tree v) (λ e. e ≡ JsonTextError.OutOfMemory) }
     ensures place { IfErr result (IsPlaceIn text.now) }
+    ensures part { IfErr result (IsTextError text.now) }
 {
     let json = match Json::from_str(alloc, text) {
         Ok(json) => json,
@@ -88,6 +89,7 @@ fn syntax_error(alloc: Global, text: &str, error: &Error) -> JsonTextError
     ensures memory { IsMemory error.now → result ≡ JsonTextError.OutOfMemory }
     ensures end { category error.now ≡ Category.Eof
         → IsPlaceAfter (characters text.now) result }
+    ensures path { HasPath [] Expected.Json result }
 {
     if error.is_memory() {
         return JsonTextError::OutOfMemory;

@@ -1,1 +1,14 @@
--- The clauses are proved by the search alone. With this file the function is tried where a function that it calls is refused.
+use Rattle.std.proofs.Common.{List, [], ℕ, inl}
+use Rattle.postcard_value_json_read.specs.Places.{HasPath, IsTextError}
+use Rattle.postcard_value_json_read.specs.declared.error.Expected.TheVariants.{Json}
+use Rattle.postcard_value_json_read.specs.declared.text.JsonTextError.{JsonTextError}
+use Rattle.postcard_value_json_read.specs.declared.text.JsonTextError.TheVariants.{NotAValue, OutOfMemory}
+use Rattle.postcard_value_json_read.proofs.text.read_json.Goals as goal
+
+-- The error for a text that isn't JSON has no path.
+no_path : (text : List ℕ) (e : JsonTextError) → HasPath [] Json e → IsTextError text e
+no_path text (NotAValue character path what) (none, is) = inl (is, none)
+no_path text OutOfMemory h = tt
+
+pub returns-in-Err-clause-part : goal.returns-in-Err-clause-part
+returns-in-Err-clause-part c = no_path c.args.text.now c.syntax_error.result c.syntax_error.ensures.path
