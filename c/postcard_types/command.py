@@ -11,7 +11,7 @@ from .python_files import PythonFile
 from .python_names import hides_module
 from .tokens import Refused
 
-USAGE = """usage: pcard c FILE [--out DIR] [--prefix P] [--only NAME,..] [--capacity NAME.field=N]..
+USAGE = """usage: pcard c FILE [--out DIR] [--prefix P] [--only NAME,..] [--capacity NAME.field=N,..]..
        pcard python FILE [--out DIR]"""
 MOST_BYTES = 1_048_576
 RUNTIME = "postcard_runtime"
