@@ -1,6 +1,6 @@
 """agrees.py [PCARD]: requires that the types of declarations are those that `@FILE:NAME` of pcard has for them.
 
-The rows of crates/postcard_dyn_tests/src/declarations.rt say what `@FILE:NAME` accepts, as what type, and what it refuses where. With the
+The rows of crates/test_source/src/declarations.rt say what `@FILE:NAME` accepts, as what type, and what it refuses where. With the
 program PCARD, each type that a file of c/types or of crates/pcard_sessions/data declares is compared too: both must accept it or refuse
 it, and print the same for the same bytes by the name as by the expression.
 """
@@ -64,7 +64,7 @@ def unescaped(literal):
 
 def rows(table):
     """Returns the rows of a table of declarations.rt: the file, the name and the type or the error."""
-    with open(os.path.join(ROOT, "crates/postcard_dyn_tests/src/declarations.rt"), encoding="utf-8") as it:
+    with open(os.path.join(ROOT, "crates/test_source/src/declarations.rt"), encoding="utf-8") as it:
         text = it.read()
     long_file = re.search(rf"const LONG_FILE: &str = ({LITERAL});", text, re.S)[1]
     content = re.search(rf"const {table}: \[Row; (\d+)\] = \[(.*?)\n\];", text, re.S)
@@ -81,35 +81,43 @@ def shown(model, kind):
 
     if isinstance(kind, Number):
         order = {"le": "Little", "be": "Big"}.get(kind.order)
-        return f"Leaf(Fixed({order}, {kind.name.upper()}))" if order else f"Leaf({kind.name.upper()})"
+        return f"Leaf(Fixed({order}, {kind.name.upper()}))" if order else f"Leaf(Integer({kind.name.upper()}))"
     if kind == UNIT:
-        return "Group([])"
+        return "Tuple([])"
+    if isinstance(kind, Scalar) and kind.name in ("f32", "f64"):
+        return f"Leaf(Float({kind.name.upper()}))"
     if isinstance(kind, (Scalar, Text)):
         return f"Leaf({'Str' if isinstance(kind, Text) else kind.name.capitalize()})"
     if isinstance(kind, Bytes):
-        return "Leaf(Bytes)" if kind.is_string else "Seq(Leaf(U8))"
+        return "Leaf(Bytes)" if kind.is_string else "Seq(Leaf(Integer(U8)))"
     if isinstance(kind, Option):
         return f"Option({of(kind.content)})"
     if isinstance(kind, List_):
-        return f"{'Map' if kind.is_map else 'Seq'}({of(kind.element)})"
+        return f"Map({', '.join(map(of, kind.element.parts))})" if kind.is_map else f"Seq({of(kind.element)})"
     if isinstance(kind, Array):
         return f"Array({of(kind.element)}, {kind.count})"
     if isinstance(kind, Tuple_):
-        return f"Group([{', '.join(map(of, kind.parts))}])"
+        return f"Tuple([{', '.join(map(of, kind.parts))}])"
     if isinstance(kind, Result):
-        return f'Enum([Named("Ok", {of(kind.ok)}), Named("Err", {of(kind.err)})])'
+        return f"Enum([{named('Ok', of(kind.ok))}, {named('Err', of(kind.err))}])"
     definition = model.definitions[kind]
     if definition.is_struct:
         return fields(definition.style, definition.members, of)
-    return f"Enum([{', '.join(f'Named({chr(34)}{it.name}{chr(34)}, {fields(it.style, it.members, of)})' for it in definition.cases)}])"
+    return f"Enum([{', '.join(named(it.name, fields(it.style, it.members, of)) for it in definition.cases)}])"
+
+
+def named(name, content):
+    """Returns a field or a variant as the test prints it."""
+    return f'Named {{ name: "{name}", content: {content} }}'
 
 
 def fields(style, members, of):
     """Returns the fields of a struct or a variant as the test prints them. One field without a name is what it has."""
     if style == "tuple" and len(members) == 1:
         return of(members[0].kind)
-    parts = [f'Named("{it.name}", {of(it.kind)})' if style == "named" else of(it.kind) for it in members]
-    return f"Group([{', '.join(parts)}])"
+    if style == "named" and members:
+        return f"Struct([{', '.join(named(it.name, of(it.kind)) for it in members)}])"
+    return f"Tuple([{', '.join(of(it.kind) for it in members)}])"
 
 
 def type_of(text, name):

@@ -1,13 +1,14 @@
 //! The program `pcard`, which encodes a value in the Postcard format, decodes and explains bytes,
 //! decodes a stream of frames, and prints sizes, checksums and the impls of a file's types. The
-//! library `postcard_cli` does its work, `postcard_cli_files` reads types from files, and
-//! `postcard_impl` makes impls.
+//! library `pcard_calls` does its work, `pcard_files` reads types and bytes from files, and
+//! `pcard_impl` makes impls.
 #![tactic(auto)]
 
-use postcard_cli::{Failure, report};
-use postcard_cli_files::{Disk, Files, ReadError, run};
+use pcard_calls::report;
+use pcard_files::{Disk, Files, ReadError, run};
+use pcard_impl::command::answer;
+use pcard_message::Failure;
 use postcard_de_flavors::Plain;
-use postcard_impl::command::answer;
 use std::alloc::AllocError;
 use std::io::{BufWriter, Write};
 use std::process::ExitCode;
@@ -18,7 +19,7 @@ const LONGEST_FILE: usize = 1_048_576;
 
 /// Returns the words after the program's name. Fails with `Usage` if they aren't text, and with
 /// `Library(OutOfMemory)`.
-fn words(rt: &HostRuntime) -> Result<Vec<String>, Failure> {
+fn words(rt: &HostRuntime) -> Result<Vec<String>, Failure<'static>> {
     match env::args(rt) {
         Ok(mut args) => {
             let _ = args.next();

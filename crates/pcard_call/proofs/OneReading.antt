@@ -1,5 +1,5 @@
 -- Words are read in one way only.
-use Rattle.std.proofs.Common.{◌≡◌, ℕ, Bool, true, false, Option, Some, None, List, [], ◌∷◌, refl, sym, ap, subst, ◌∙◌, true≢false, inl, inr}
+use Rattle.std.proofs.Common.{◌≡◌, ℕ, Bool, true, false, Option, Some, List, [], ◌∷◌, refl, sym, ap, subst, ◌∙◌, true≢false, inl, inr}
 use Rattle.std.proofs.lemmas.Option.{same_Some}
 use Rattle.std.specs.Prelude.{codes, nat_eq, if◌then◌else◌}
 use lib.Pointwise.{pointwise}
@@ -8,10 +8,10 @@ use Rattle.pcard_call.specs.declared.verb.Verb.TheVariants as verbs
 use Rattle.pcard_call.specs.declared.options.OptionName.{OptionName}
 use Rattle.pcard_call.specs.declared.options.OptionName.TheVariants.{Checksum, Longest, Json, Frame, All, Hex, Raw}
 use Rattle.pcard_call.specs.declared.misuse.Misuse.{Misuse}
-use Rattle.pcard_call.specs.declared.misuse.Misuse.TheVariants.{NoVerb, UnknownVerb, UnknownOption, Untaken, Twice, NoValue, BadLongest, Operands}
-use Rattle.pcard_call.specs.Words.{verb_name, option_name, has_value, takes}
-use Rattle.pcard_call.specs.Options.{Given, nothing_given, is_given, with_switch}
-use Rattle.pcard_call.specs.Calls.{Words, begins_option, SaysLongest, IsNewOption, WithValue, OptionsThen, at_end, at_operand, switch, valued, fits, IsCall}
+use Rattle.pcard_call.specs.declared.misuse.Misuse.TheVariants.{NoVerb, UnknownVerb, UnknownOption, Untaken, Twice, NoValue, BadValue, Operands}
+use Rattle.pcard_call.specs.Words.{verb_name}
+use Rattle.pcard_call.specs.Options.{Given, WithValue, option_name, has_value, takes, nothing_given, is_given, with_switch}
+use Rattle.pcard_call.specs.Calls.{Words, begins_option, IsNewOption, OptionsThen, at_end, at_operand, switch, valued, fits, IsCall}
 use Rattle.pcard_call.specs.Calls.{IsBadOption, IsBadValue, IsMisused, bad_option, no_value, bad_value, after_switch, after_value, IsMisuse}
 
 abbrev is : List ℕ → List ℕ → Bool
@@ -123,7 +123,7 @@ not_bad v g w o (Twice p) new bad =
     let same = same_option o p (sym new.0 ∙ bad.0) in
     true≢false (sym bad.2 ∙ ap (λ x. is_given x g) (sym same) ∙ new.2)
 not_bad v g w o (NoValue p) new bad = bad
-not_bad v g w o (BadLongest x) new bad = bad
+not_bad v g w o (BadValue p x) new bad = bad
 not_bad v g w o (Operands u) new bad = bad
 
 -- A value that was added is no bad one.
@@ -134,9 +134,7 @@ added_bad o value g h (UnknownOption u x) added bad = bad
 added_bad o value g h (Untaken u p) added bad = bad
 added_bad o value g h (Twice p) added bad = bad
 added_bad o value g h (NoValue p) added bad = bad
-added_bad o value g h (BadLongest x) added (is_longest, same, none) =
-    let (n, says, e) = subst (λ p. WithValue p value g h) is_longest added in
-    none n says
+added_bad o value g h (BadValue p x) added (is, same, none) = none g h added
 added_bad o value g h (Operands u) added bad = bad
 
 -- Options that are read are not misused.
@@ -183,7 +181,7 @@ not_misused words operands verb given (UnknownOption v w) a (inl never) = never
 not_misused words operands verb given (Untaken v o) a (inl never) = never
 not_misused words operands verb given (Twice o) a (inl never) = never
 not_misused words operands verb given (NoValue o) a (inl never) = never
-not_misused words operands verb given (BadLongest w) a (inl never) = never
+not_misused words operands verb given (BadValue o w) a (inl never) = never
 not_misused words operands verb given (Operands v) a (inl b) =
     let both = sym a.begins ∙ b.begins in
     let verbs = same_verb verb v (same_first both) in

@@ -1,16 +1,14 @@
 -- Which words are a call, and why others are none.
-use Rattle.std.specs.Prelude.{◌≡◌, ◌≢◌, ◌≤◌, ◌⊎◌, ℕ, nat_eq, List, [], ◌∷◌, Bool, true, false, if◌then◌else◌, ◌&&◌, ◌||◌, codes, length, Option, Some}
+use Rattle.std.specs.Prelude.{◌≡◌, ◌≢◌, ◌⊎◌, ℕ, nat_eq, List, [], ◌∷◌, Bool, true, false, if◌then◌else◌, codes, length}
 use Rattle.std.specs.List.{starts_with}
 use lib.Pointwise.{pointwise}
-use Rattle.std.specs.Str.Parse.{IsNumeral, digits_value, without_leading_plus}
 use Rattle.pcard_call.specs.declared.verb.Verb.{Verb}
 use Rattle.pcard_call.specs.declared.verb.Verb.TheVariants as verbs
 use Rattle.pcard_call.specs.declared.options.OptionName.{OptionName}
-use Rattle.pcard_call.specs.declared.options.OptionName.TheVariants.{Checksum, Longest}
 use Rattle.pcard_call.specs.declared.misuse.Misuse.{Misuse}
-use Rattle.pcard_call.specs.declared.misuse.Misuse.TheVariants.{NoVerb, UnknownVerb, UnknownOption, Untaken, Twice, NoValue, BadLongest, Operands}
-use Rattle.pcard_call.specs.Words.{verb_name, option_name, has_value, takes}
-use Rattle.pcard_call.specs.Options.{Given, nothing_given, is_given, is_empty, with_switch}
+use Rattle.pcard_call.specs.declared.misuse.Misuse.TheVariants.{NoVerb, UnknownVerb, UnknownOption, Untaken, Twice, NoValue, BadValue, Operands}
+use Rattle.pcard_call.specs.Words.{verb_name}
+use Rattle.pcard_call.specs.Options.{Given, WithValue, option_name, has_value, takes, nothing_given, is_given, is_empty, with_switch}
 
 abbrev pub Words : Type 0
 Words = List (List ℕ)
@@ -19,20 +17,9 @@ Words = List (List ℕ)
 abbrev pub begins_option : List ℕ → Bool
 begins_option word = starts_with nat_eq word (codes "--")
 
--- The word is a number from 1 to 65,536, in decimal digits.
-abbrev pub SaysLongest : List ℕ → ℕ → Type 0
-SaysLongest word n =
-    IsNumeral 10 (without_leading_plus word) × (n ≡ digits_value 10 (without_leading_plus word)) × (1 ≤ n) × (n ≤ 65536)
-
 -- The word names an option that the verb takes and that isn't given yet.
 abbrev pub IsNewOption : Verb → Given → List ℕ → OptionName → Type 0
 IsNewOption verb g word option = (word ≡ option_name option) × (takes verb option ≡ true) × (is_given option g ≡ false)
-
--- The options and one more, which has this value.
-abbrev pub WithValue : OptionName → List ℕ → Given → Given → Type 0
-WithValue Checksum name g h = h ≡ record g { checksum = Some name }
-WithValue Longest number g h = (n : ℕ) × SaysLongest number n × (h ≡ record g { longest = Some n })
-WithValue option value g h = ⊥
 
 -- The words are options of the verb, each new, and then words of which the first is no option. The first options are those that are
 -- given before, the second ones those that are given then.
@@ -83,7 +70,7 @@ IsBadOption verb g word misuse = ⊥
 
 -- The word is no value of the option.
 abbrev pub IsBadValue : OptionName → List ℕ → Misuse → Type 0
-IsBadValue option word (BadLongest w) = (option ≡ Longest) × (w.now ≡ word) × ((n : ℕ) → SaysLongest word n → ⊥)
+IsBadValue option word (BadValue o w) = (o ≡ option) × (w.now ≡ word) × ((g h : Given) → WithValue option word g h → ⊥)
 IsBadValue option word misuse = ⊥
 
 -- Words after a verb are no options and operands, for this reason: the first of them that is wrong.

@@ -6,10 +6,11 @@ pub mod Texts
 pub use Rattle.pcard_call.specs.declared.verb.Verb.{Verb}
 pub use Rattle.pcard_call.specs.declared.options.OptionName.{OptionName}
 pub use Rattle.pcard_call.specs.declared.misuse.Misuse.{Misuse}
-pub use Rattle.pcard_call.specs.Words.{has_value, option_name, takes, verb_name}
-pub use Rattle.pcard_call.specs.Options.{Given, given_of, is_empty, is_given, nothing_given}
-pub use Rattle.pcard_call.specs.Options.{with_switch}
+pub use Rattle.pcard_call.specs.Words.{verb_name}
+pub use Rattle.pcard_call.specs.Options.{Given, SaysLongest, WithValue, given_of, has_value}
+pub use Rattle.pcard_call.specs.Options.{is_empty, is_given, nothing_given, option_name, takes}
+pub use Rattle.pcard_call.specs.Options.{usage_of, value_of, with_switch}
 pub use Rattle.pcard_call.specs.Calls.{IsBadOption, IsBadValue, IsCall, IsMisuse, IsMisused}
-pub use Rattle.pcard_call.specs.Calls.{IsNewOption, OptionsThen, SaysLongest, WithValue, fits}
-pub use Rattle.pcard_call.specs.Calls.{begins_option, is_input, names_input}
-pub use Rattle.pcard_call.specs.Texts.{misuse_text, usage_of, value_of}
+pub use Rattle.pcard_call.specs.Calls.{IsNewOption, OptionsThen, begins_option, fits, is_input}
+pub use Rattle.pcard_call.specs.Calls.{names_input}
+pub use Rattle.pcard_call.specs.Texts.{misuse_text}

@@ -1,16 +1,12 @@
 //! The call of some words.
 
-ghost use Rattle.std.specs.Prelude.{◌≡◌, ℕ, IfErr, IfNone, IfOk, IfSome, map, string_bytes, true};
-ghost use Rattle.pcard_call.specs.{IsBadOption, IsBadValue, IsCall, IsMisuse, IsMisused};
-ghost use Rattle.pcard_call.specs.{IsNewOption, OptionsThen, SaysLongest, WithValue, fits};
-ghost use Rattle.pcard_call.specs.{begins_option, given_of, has_value, is_input, names_input};
+ghost use Rattle.std.specs.Prelude.{◌≡◌, IfErr, IfOk, map, string_bytes};
+ghost use Rattle.pcard_call.specs.{IsBadOption, IsCall, IsMisuse, IsMisused, IsNewOption};
+ghost use Rattle.pcard_call.specs.{OptionsThen, begins_option, fits, given_of, is_input, names_input};
 
 use crate::misuse::Misuse;
 use crate::options::{OptionName, Options};
 use crate::verb::Verb;
-
-/// The greatest number of bytes of a frame that `--longest` allows.
-pub const LONGEST: usize = 65_536;
 
 /// One call: what its words say.
 #[derive(Clone, Copy, Debug)]
@@ -84,7 +80,7 @@ fn read_options<'a>(
     let Some((value, rest)) = rest.split_first() else {
         return Err(Misuse::NoValue(option));
     };
-    match with_value(given, option, value.as_str()) {
+    match given.with_value(option, value.as_str()) {
         Ok(given) => read_options(verb, given, rest),
         Err(misuse) => Err(misuse),
     }
@@ -111,43 +107,6 @@ fn option_of<'a>(verb: Verb, given: Options<'a>, word: &'a str) -> Result<Option
         return Err(Misuse::Twice(option));
     }
     Ok(option)
-}
-
-/// Returns the options and one more, which has this value.
-fn with_value<'a>(
-    given: Options<'a>,
-    option: OptionName,
-    value: &'a str,
-) -> Result<Options<'a>, Misuse<'a>>
-    requires { has_value option ≡ true }
-    ensures added { IfOk result (λ more.
-        WithValue option value.now (given_of given.entry) (given_of more)) }
-    ensures misused { IfErr result (IsBadValue option value.now) }
-{
-    if option == OptionName::Checksum {
-        return Ok(Options {
-            checksum: Some(value),
-            ..given
-        });
-    }
-    match longest(value) {
-        Some(number) => Ok(Options {
-            longest: Some(number),
-            ..given
-        }),
-        None => Err(Misuse::BadLongest(value)),
-    }
-}
-
-/// Returns the number of a word, or `None` if it isn't a number from 1 to 65,536.
-fn longest(number: &str) -> Option<usize>
-    ensures found { IfSome result (SaysLongest number.now) }
-    ensures none { IfNone result ((n : ℕ) → SaysLongest number.now n → ⊥) }
-{
-    match number.parse::<usize>() {
-        Ok(longest) if 1 <= longest && longest <= LONGEST => Some(longest),
-        _ => None,
-    }
 }
 
 /// Returns whether the operands are those that the verb takes with these options.

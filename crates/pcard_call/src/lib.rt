@@ -13,5 +13,5 @@ pub mod verb;
 
 pub use call::Call;
 pub use misuse::Misuse;
-pub use options::{OptionName, Options};
+pub use options::{LONGEST, OptionName, Options};
 pub use verb::Verb;

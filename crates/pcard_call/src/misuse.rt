@@ -1,7 +1,7 @@
 //! Why some words are no call.
 
 ghost use Rattle.std.specs.Prelude.{◌≡◌, Some};
-ghost use Rattle.pcard_call.specs.{misuse_text, value_of};
+ghost use Rattle.pcard_call.specs.{misuse_text};
 
 use crate::options::OptionName;
 use crate::verb::Verb;
@@ -23,8 +23,8 @@ pub enum Misuse<'a> {
     Twice(OptionName),
     /// The option comes last, without its value.
     NoValue(OptionName),
-    /// This is no value of `--longest`.
-    BadLongest(&'a str),
+    /// This is no value of the option.
+    BadValue(OptionName, &'a str),
     /// After the options of the verb come too few operands, too many, or others than they allow.
     Operands(Verb),
 }
@@ -37,7 +37,7 @@ impl fmt::Display for Misuse<'_> {
             Misuse::NoVerb => f.write_str("a command is missing; pcard --help prints the calls"),
             Misuse::UnknownVerb(word) => write!(
                 f,
-                "unknown command {word}: there are enc, dec, decs, frames, explain, size, crc and types"
+                "unknown command {word}: there are enc, dec, decs, frames, explain, size, crc, types, impl, c, python and demo"
             ),
             Misuse::UnknownOption(verb, word) => {
                 let (name, usage) = (verb.name(), verb.usage());
@@ -52,30 +52,17 @@ impl fmt::Display for Misuse<'_> {
                 write!(f, "{word} stands twice")
             }
             Misuse::NoValue(option) => {
-                let (word, value) = (option.name(), value_of(*option));
+                let (word, value) = (option.name(), option.value());
                 write!(f, "{word} takes {value}")
             }
-            Misuse::BadLongest(word) => {
-                write!(
-                    f,
-                    "--longest takes a number from 1 to 65536, and not {word}"
-                )
+            Misuse::BadValue(option, found) => {
+                let (word, value) = (option.name(), option.value());
+                write!(f, "{word} takes {value}, and not {found}")
             }
             Misuse::Operands(verb) => {
                 let (name, usage) = (verb.name(), verb.usage());
                 write!(f, "{name} takes {usage}")
             }
         }
-    }
-}
-
-/// Returns what the value of an option is.
-fn value_of(option: OptionName) -> &'static str
-    ensures { result.now ≡ value_of option }
-{
-    match option {
-        OptionName::Checksum => "the name of a checksum",
-        OptionName::Longest => "a number from 1 to 65536",
-        _ => "no value",
     }
 }

@@ -1,10 +1,15 @@
-//! The options of a call.
+//! The options of a call: all that an option is stands in this file and in `specs/Options.antt`.
 
-ghost use Rattle.std.specs.Prelude.{◌≡◌, ◌≢◌, IfNone, IfSome};
-ghost use Rattle.pcard_call.specs.{OptionName, given_of, has_value, is_empty, is_given};
-ghost use Rattle.pcard_call.specs.{nothing_given, option_name, takes, with_switch};
+ghost use Rattle.std.specs.Prelude.{◌≡◌, ◌≢◌, ℕ, IfErr, IfNone, IfOk, IfSome, true};
+ghost use Rattle.pcard_call.specs.{IsBadValue, OptionName, SaysLongest, WithValue, given_of};
+ghost use Rattle.pcard_call.specs.{has_value, is_empty, is_given, nothing_given, option_name};
+ghost use Rattle.pcard_call.specs.{takes, usage_of, value_of, with_switch};
 
+use crate::misuse::Misuse;
 use crate::verb::Verb;
+
+/// The greatest number of bytes of a frame that `--longest` allows.
+pub const LONGEST: usize = 65_536;
 
 /// The name of an option.
 #[derive(Clone, Copy, Debug, PartialEq, Eq)]
@@ -65,6 +70,17 @@ impl OptionName {
         matches!(self, OptionName::Checksum | OptionName::Longest)
     }
 
+    /// Returns what the value of the option is.
+    pub fn value(self) -> &'static str
+        ensures { result.now ≡ value_of self }
+    {
+        match self {
+            OptionName::Checksum => "the name of a checksum",
+            OptionName::Longest => "a number from 1 to 65536",
+            _ => "no value",
+        }
+    }
+
     /// Returns whether the verb takes the option.
     pub fn is_taken_by(self, verb: Verb) -> bool
         ensures { result ≡ takes verb self }
@@ -79,6 +95,27 @@ impl OptionName {
             Verb::Explain => !matches!(self, OptionName::Longest | OptionName::Hex),
             Verb::Frames => !matches!(self, OptionName::Frame | OptionName::All),
             Verb::Size | Verb::Checksum | Verb::Types => false,
+        }
+    }
+}
+
+impl Verb {
+    /// Returns what to write after the verb.
+    pub fn usage(self) -> &'static str
+        ensures { result.now ≡ usage_of self }
+    {
+        match self {
+            Verb::Encode => "[--crc NAME] [--json] [--frame] [--raw] TYPE VALUE",
+            Verb::Decode | Verb::DecodeAll => {
+                "[--crc NAME] [--json] [--frame] TYPE HEX, or --raw TYPE [@FILE]"
+            }
+            Verb::Explain =>
+                "[--all] [--crc NAME] [--json] [--frame] TYPE HEX, or --raw TYPE [@FILE]",
+            Verb::Frames =>
+                "[--crc NAME] [--json] [--longest N] [TYPE], --hex TYPE HEX, or --raw TYPE [@FILE]",
+            Verb::Size => "TYPE",
+            Verb::Checksum => "NAME HEX, or no word more",
+            Verb::Types => "no word more",
         }
     }
 }
@@ -150,6 +187,32 @@ impl<'a> Options<'a> {
         }
     }
 
+    /// Returns these options and one more, which has this value.
+    ///
+    /// # Errors
+    ///
+    /// Fails with `BadValue` if this is no value of the option.
+    pub fn with_value(self, option: OptionName, value: &'a str) -> Result<Options<'a>, Misuse<'a>>
+        requires { has_value option ≡ true }
+        ensures added { IfOk result (λ more.
+            WithValue option value.now (given_of self.entry) (given_of more)) }
+        ensures misused { IfErr result (IsBadValue option value.now) }
+    {
+        if option == OptionName::Checksum {
+            return Ok(Options {
+                checksum: Some(value),
+                ..self
+            });
+        }
+        match longest(value) {
+            Some(number) => Ok(Options {
+                longest: Some(number),
+                ..self
+            }),
+            None => Err(Misuse::BadValue(option, value)),
+        }
+    }
+
     /// Returns whether no option is given.
     pub fn is_empty(&self) -> bool
         ensures { result ≡ is_empty (given_of self.now) }
@@ -161,5 +224,16 @@ impl<'a> Options<'a> {
             && !self.all
             && !self.hex
             && !self.raw
+    }
+}
+
+/// Returns the number of a word, or `None` if it isn't a number from 1 to 65,536.
+fn longest(number: &str) -> Option<usize>
+    ensures found { IfSome result (SaysLongest number.now) }
+    ensures none { IfNone result ((n : ℕ) → SaysLongest number.now n → ⊥) }
+{
+    match number.parse::<usize>() {
+        Ok(longest) if 1 <= longest && longest <= LONGEST => Some(longest),
+        _ => None,
     }
 }

@@ -1,7 +1,7 @@
 //! What a call does.
 
 ghost use Rattle.std.specs.Prelude.{◌≡◌, ◌≢◌, IfNone, IfSome};
-ghost use Rattle.pcard_call.specs.{Verb, usage_of, verb_name};
+ghost use Rattle.pcard_call.specs.{Verb, verb_name};
 
 /// What a call does.
 #[derive(Clone, Copy, Debug, PartialEq, Eq)]
@@ -56,25 +56,6 @@ impl Verb {
             Verb::Size => "size",
             Verb::Checksum => "crc",
             Verb::Types => "types",
-        }
-    }
-
-    /// Returns what to write after the verb.
-    pub fn usage(self) -> &'static str
-        ensures { result.now ≡ usage_of self }
-    {
-        match self {
-            Verb::Encode => "[--crc NAME] [--json] [--frame] [--raw] TYPE VALUE",
-            Verb::Decode | Verb::DecodeAll => {
-                "[--crc NAME] [--json] [--frame] TYPE HEX, or --raw TYPE [@FILE]"
-            }
-            Verb::Explain =>
-                "[--all] [--crc NAME] [--json] [--frame] TYPE HEX, or --raw TYPE [@FILE]",
-            Verb::Frames =>
-                "[--crc NAME] [--json] [--longest N] [TYPE], --hex TYPE HEX, or --raw TYPE @FILE",
-            Verb::Size => "TYPE",
-            Verb::Checksum => "NAME HEX, or no word more",
-            Verb::Types => "no word more",
         }
     }
 }

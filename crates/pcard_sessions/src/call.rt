@@ -2,7 +2,7 @@
 
 use crate::call_error::CallError;
 use crate::words::words_of;
-use postcard_cli_files::{Disk, run};
+use pcard_files::{Disk, run};
 use std::alloc::{AllocError, Global};
 use std::fmt;
 
@@ -88,14 +88,32 @@ fn output_of(rt: &HostRuntime, text: &str) -> Result<String, CallError> {
         &mut printed,
         &mut errors,
     );
-    printed.extend_from_slice(&errors)?;
-    let Ok(printed) = String::from_utf8(printed) else {
+    let output = shown(alloc, printed)?;
+    let Ok(told) = String::from_utf8(errors) else {
         return Err(CallError::NoText);
     };
     if status == 0 {
-        return Ok(printed);
+        return Ok(format!(in alloc; "{output}{told}")?);
     }
-    Ok(format!(in alloc; "? {status}\n{printed}")?)
+    Ok(format!(in alloc; "? {status}\n{output}{told}")?)
+}
+
+/// Returns what is printed to the output as it is written in a session: as it is if it is lines of
+/// text, and else as a line with its bytes.
+fn shown(alloc: Global, printed: Vec<u8>) -> Result<String, AllocError> {
+    if printed.is_empty() || printed.last() == Some(&10) && !printed.contains(&0) {
+        match String::from_utf8(printed) {
+            Ok(text) => return Ok(text),
+            Err(error) => return line_of(alloc, &error.into_bytes()),
+        }
+    }
+    line_of(alloc, &printed)
+}
+
+/// Returns the line that shows bytes.
+fn line_of(alloc: Global, bytes: &[u8]) -> Result<String, AllocError> {
+    let digits = hex::encode(alloc, bytes)?;
+    format!(in alloc; "bytes {digits}\n")
 }
 
 /// Returns the bytes of hexadecimal digits.

@@ -1,7 +1,7 @@
 -- An option is read, and then those after it.
-use Rattle.std.proofs.Common.{◌≡◌, ℕ, List, [], ◌∷◌, map, string_bytes, sym, subst, ap, ◌∙◌, Global, true, false}
-use Rattle.pcard_call.specs.Words.{has_value}
-use Rattle.pcard_call.specs.Calls.{begins_option, OptionsThen, at_end, at_operand, switch, valued, IsMisused, bad_option, no_value, bad_value, after_switch, after_value}
+use Rattle.std.proofs.Common.{◌≡◌, ◌∷◌, map, string_bytes, sym, ap, ◌∙◌, Global, true, false}
+use Rattle.pcard_call.specs.Options.{has_value}
+use Rattle.pcard_call.specs.Calls.{begins_option, at_end, at_operand, switch, valued, bad_option, no_value, bad_value, after_switch, after_value}
 use Rattle.pcard_call.specs.Options.{given_of}
 use Rattle.pcard_call.proofs.WordLemmas.{whole, none, if_ok, if_err}
 use Rattle.pcard_call.proofs.call.+read_options.Goals as goal

@@ -1,5 +1,4 @@
-use Rattle.std.proofs.Common.{◌≡◌, ◌∷◌, map, string_bytes, sym, ap, ◌∙◌, inl, inr, Global}
-use Rattle.pcard_call.specs.Words.{verb_name}
+use Rattle.std.proofs.Common.{◌∷◌, map, string_bytes, sym, ap, ◌∙◌, inl, inr, Global}
 use Rattle.pcard_call.proofs.WordLemmas.{whole}
 use Rattle.pcard_call.proofs.call.Call.parse.Goals as goal
 

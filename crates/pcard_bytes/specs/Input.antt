@@ -1,0 +1,44 @@
+-- The bytes of a word of a call, or of the input, and why there are none.
+use Rattle.std.specs.Prelude.{◌≡◌, ◌≢◌, ℕ, ◌≤◌, List, length, codes, Option}
+use Rattle.std.specs.Io.KnownBytes.{Consumes, IsAtEnd}
+use Rattle.pcard_bytes.specs.Hexadecimal.{SpellsBytes, IsWrongHex}
+use Rattle.pcard_bytes.specs.declared.input.InputError.{InputError}
+use Rattle.pcard_bytes.specs.declared.input.InputError.TheVariants.{BadHex, ReadFailed, Limit, OutOfMemory}
+
+-- The bytes are all of the input.
+abbrev pub IsInput : Option (List ℕ) → Option (List ℕ) → List ℕ → Type 0
+IsInput known left bytes = Consumes known left bytes × IsAtEnd left
+
+-- The bytes that the word HEX stands for: those that it spells itself, or, if it is `-`, that the
+-- whole input spells. No other bytes are spelled.
+pub record StandsFor (hex : List ℕ) (known left : Option (List ℕ)) (bytes : List ℕ) : Type 0 where
+  pub digits : List ℕ
+  pub own : hex ≢ codes "-" → digits ≡ hex
+  pub input : hex ≡ codes "-" → IsInput known left digits
+  pub are : SpellsBytes digits bytes
+  pub only : (other : List ℕ) → SpellsBytes digits other → other ≡ bytes
+
+-- The text of the digits of HEX: HEX itself, or, if it is `-`, the whole input.
+pub record IsDigitText (hex : List ℕ) (known left : Option (List ℕ)) (digits : List ℕ) : Type 0 where
+  pub own : hex ≢ codes "-" → digits ≡ hex
+  pub input : hex ≡ codes "-" → IsInput known left digits
+
+-- At least `count` bytes of the input were read.
+abbrev pub ReadsAtLeast : ℕ → Option (List ℕ) → Option (List ℕ) → Type 0
+ReadsAtLeast count known left = (given : List ℕ) × Consumes known left given × (count ≤ length given)
+
+-- The failures of reading all of the input, if no read of a steady input fails and `reads` reads
+-- are made at most. Each read but the last gives a byte or more.
+abbrev pub InputFails : ℕ → Type 0 → Option (List ℕ) → Option (List ℕ) → InputError → Type 0
+InputFails reads steady known left (BadHex n) = ⊥
+InputFails reads steady known left ReadFailed = steady → ⊥
+InputFails reads steady known left Limit = ReadsAtLeast reads known left
+InputFails reads steady known left OutOfMemory = Unit {0}
+
+-- The failures of reading HEX. It is bad if its text spells no bytes, at the first wrong character.
+-- The input fails only if HEX is `-`.
+abbrev pub HexFails : ℕ → Type 0 → List ℕ → Option (List ℕ) → Option (List ℕ) → InputError → Type 0
+HexFails reads steady hex known left (BadHex n) = (digits : List ℕ) × IsDigitText hex known left digits × IsWrongHex digits n
+HexFails reads steady hex known left ReadFailed = (hex ≡ codes "-") × (steady → ⊥)
+HexFails reads steady hex known left Limit = (hex ≡ codes "-") × ReadsAtLeast reads known left
+HexFails reads steady hex known left OutOfMemory = Unit {0}

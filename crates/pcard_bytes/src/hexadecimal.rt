@@ -1,0 +1,30 @@
+//! Reading the bytes of HEX, a word of a call.
+
+ghost use Rattle.std.specs.Prelude.{IfOk, IfErr};
+ghost use Rattle.pcard_bytes.specs.{HexFails, StandsFor};
+
+use crate::input::{InputError, READS, read_input};
+use crate::pasted;
+use postcard_de_flavors::Reader;
+use std::alloc::Global;
+
+/// Returns the bytes of a text of hexadecimal digits as it is pasted: with blanks, colons, commas or
+/// hyphens between the bytes, or as the lines of `xxd` or of `hexdump -C`. For the text `-`, the
+/// input is read to its end and is the text.
+///
+/// # Errors
+///
+/// Fails with `BadHex` if a word of the text isn't an even number of digits, after `0x` or not, and
+/// as [`read_input`] does.
+pub fn read_hex<R: Reader>(alloc: Global, text: &str, input: &mut R) -> Result<Vec<u8>, InputError>
+    ensures value { IfOk result (λ bytes. StandsFor text.now (R.remaining input.old)
+        (R.remaining input.new) bytes.items) }
+    ensures refused { IfErr result (HexFails READS (R.steady input.old) text.now
+        (R.remaining input.old) (R.remaining input.new)) }
+{
+    if text != "-" {
+        return pasted::read(alloc, text.as_bytes());
+    }
+    let held = read_input(alloc, input)?;
+    pasted::read(alloc, &held)
+}

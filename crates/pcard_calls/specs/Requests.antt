@@ -1,0 +1,51 @@
+-- Which words are a request, and why others are none.
+use Rattle.std.specs.Prelude.{◌≡◌, ℕ, Bool, true, false, List, [], ◌∷◌, ◌++◌, codes}
+use Rattle.pcard_call.specs.Calls.{IsCall, IsMisuse}
+use Rattle.pcard_call.specs.Options.{Given, is_empty}
+use Rattle.pcard_call.specs.Texts.{misuse_text}
+use Rattle.pcard_call.specs.declared.verb.Verb.{Verb}
+use Rattle.pcard_call.specs.declared.verb.Verb.TheVariants as verbs
+use Rattle.pcard_calls.specs.Names.{IsWordOf}
+use Rattle.pcard_calls.specs.declared.names.TypeWord.{TypeWord}
+use Rattle.pcard_calls.specs.declared.names.TypeWord.TheVariants.{Expression}
+use Rattle.pcard_calls.specs.declared.request.NoCall.{NoCall}
+use Rattle.pcard_calls.specs.declared.request.NoCall.TheVariants.{Misuse, UnknownType}
+
+-- The first of some words, and the second, or else the empty word.
+abbrev pub first_word : List (List ℕ) → List ℕ
+first_word [] = []
+first_word (word ∷ words) = word
+
+abbrev pub second_word : List (List ℕ) → List ℕ
+second_word [] = []
+second_word (word ∷ words) = first_word words
+
+-- Whether TYPE may be a name: of `enc` and `dec` without options.
+abbrev pub takes_name : Verb → Given → Bool
+takes_name verbs.Encode given = is_empty given
+takes_name verbs.Decode given = is_empty given
+takes_name verb given = false
+
+-- The word TYPE of a call stands for this.
+pub record IsTypeWord (verb : Verb) (given : Given) (word : List ℕ) (kind : TypeWord) : Type 0 where
+  pub named : takes_name verb given ≡ true → IsWordOf word kind
+  pub other : takes_name verb given ≡ false → kind ≡ Expression
+
+-- The words are this call, and its TYPE stands for this.
+pub record IsRequest (words : List (List ℕ)) (verb : Verb) (given : Given) (operands : List (List ℕ)) (kind : TypeWord) : Type 0 where
+  pub call : IsCall words verb given operands
+  pub type_word : IsTypeWord verb given (first_word operands) kind
+
+-- The words are no request.
+abbrev pub IsNoCall : List (List ℕ) → Type 0
+IsNoCall words = (verb : Verb) (given : Given) (operands : List (List ℕ)) (kind : TypeWord) → IsRequest words verb given operands kind → ⊥
+
+-- The words are no request for this reason.
+abbrev pub IsWhyNoCall : List (List ℕ) → NoCall → Type 0
+IsWhyNoCall words (Misuse misuse) = IsMisuse words misuse
+IsWhyNoCall words (UnknownType word) =
+    (verb : Verb) × (given : Given) × (operands : List (List ℕ)) × IsCall words verb given operands × (word.now ≡ first_word operands)
+
+abbrev pub no_call_text : NoCall → List ℕ
+no_call_text (Misuse misuse) = misuse_text misuse
+no_call_text (UnknownType word) = codes "unknown type " ++ (word.now ++ codes "; pcard types prints how a type is written")

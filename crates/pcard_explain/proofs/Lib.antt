@@ -1,0 +1,5 @@
+pub mod LayoutLemmas
+pub mod PlaceLemmas
+pub mod RowLemmas
+pub mod GroupLemmas
+pub mod SplitLemmas

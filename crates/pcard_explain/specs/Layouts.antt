@@ -1,0 +1,68 @@
+-- Rows of text: an offset, bytes in hexadecimal, and what is said of them.
+use Rattle.std.specs.Prelude.{◌≡◌, ℕ, ◌+◌, ◌*◌, ◌-◌, ◌≤◌, ◌⊎◌, min, max, nat_le, nat_lt, Bool, false, if◌then◌else◌, replicate, List, [], ◌∷◌, ◌++◌, length, take, drop, codes, Option}
+use Rattle.std.specs.List.{flat_map}
+use Rattle.std.specs.Int.{w64, to_be_bytes}
+use Rattle.std.specs.Io.KnownBytes.{Appends}
+use Rattle.hex.specs.Hex.{encode_lower}
+use Rattle.postcard_explain.specs.Explained.{bytes_of}
+use Rattle.postcard_explain.specs.declared.line.Line.{Line}
+use Rattle.pcard_print.specs.Lines.{offset}
+use Rattle.pcard_print.specs.declared.notation.Notation.{Notation}
+use Rattle.pcard_explain.specs.declared.layout.Layout.{Layout}
+
+-- ---- layouts
+
+-- The number of bytes of the offsets up to n.
+abbrev pub offset_size : ℕ → ℕ
+offset_size n = if nat_lt n 256 then 1 else if nat_lt n 65536 then 2 else if nat_lt n 4294967296 then 4 else 8
+
+-- The number of bytes of the longest of some lines.
+abbrev pub longest_of : List Line → ℕ
+longest_of [] = 0
+longest_of (line ∷ lines) = max (length line.bytes.now) (longest_of lines)
+
+-- The layout of the rows of lines: their offsets have as many digits as the offset after the last line.
+abbrev pub rows_layout : Notation → Bool → List Line → Layout
+rows_layout notation all lines = record { notation = notation; offset = offset_size (offset (length (bytes_of lines))); longest = longest_of lines; all = all }
+
+-- ---- rows
+
+-- A byte in hexadecimal, with a blank after it, and bytes so.
+abbrev pub spaced_byte : ℕ → List ℕ
+spaced_byte b = encode_lower (b ∷ []) ++ 32 ∷ []
+
+abbrev pub spaced : List ℕ → List ℕ
+spaced bytes = flat_map spaced_byte bytes
+
+-- The bytes of a row: all, or of more than eight bytes the first eight and `.. `.
+abbrev pub bytes_text : Layout → List ℕ → List ℕ
+bytes_text layout bytes = if layout.all then spaced bytes else if nat_le (length bytes) 8 then spaced bytes else spaced (take 8 bytes) ++ codes ".. "
+
+-- The offset of a row, in hexadecimal digits.
+abbrev pub offset_text : Layout → ℕ → List ℕ
+offset_text layout at = encode_lower (drop (8 - layout.offset) (to_be_bytes w64 (offset at)))
+
+-- The number of blanks between n bytes and the text of a row: those up to the longest row, of whose columns at most nine count, one, and
+-- two for each level of depth, of which at most twelve count.
+abbrev pub blanks_of : Layout → ℕ → ℕ → ℕ
+blanks_of layout depth n = 3 * min layout.longest 9 - 3 * min n 9 + 1 + 2 * min depth 12
+
+-- What a row has before its text: the offset, the bytes, and blanks.
+abbrev pub head_text : Layout → ℕ → ℕ → List ℕ → List ℕ
+head_text layout at depth bytes =
+    offset_text layout at ++ (codes "  " ++ (bytes_text layout bytes ++ replicate (blanks_of layout depth (length bytes)) 32))
+
+-- What a row shows of a text: all, or, unless nothing is cut, a prefix and `..`.
+abbrev pub IsCut : Layout → List ℕ → List ℕ → Type 0
+IsCut layout text shown =
+    (shown ≡ text) ⊎ ((layout.all ≡ false) × ((front : List ℕ) × (back : List ℕ) × (text ≡ front ++ back) × (shown ≡ front ++ codes "..")))
+
+-- The row of bytes at this offset and depth, of which this text is said, cut. It has at most 80 bytes and its line feed, unless nothing is
+-- cut.
+abbrev pub IsRow : Layout → ℕ → ℕ → List ℕ → List ℕ → List ℕ → Type 0
+IsRow layout at depth bytes text row =
+    (shown : List ℕ) × IsCut layout text shown × (row ≡ head_text layout at depth bytes ++ (shown ++ 10 ∷ []))
+    × (layout.all ≡ false → length row ≤ 81)
+
+abbrev pub PrintsRow : Layout → ℕ → ℕ → List ℕ → List ℕ → Option (List ℕ) → Option (List ℕ) → Type 0
+PrintsRow layout at depth bytes text old new = (row : List ℕ) × IsRow layout at depth bytes text row × Appends old new row

@@ -1,0 +1,5 @@
+pub mod CallLemmas
+pub mod ColonLemmas
+pub mod FileLemmas
+pub mod InputLemmas
+pub mod WordLemmas

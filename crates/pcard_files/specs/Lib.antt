@@ -1,0 +1,16 @@
+pub mod Fault
+pub mod TypeName
+pub mod Operands
+pub mod Call
+pub mod Input
+-- The words that clauses of this crate cite, under one path.
+pub use Rattle.pcard_call.specs.declared.verb.Verb.{Verb}
+pub use Rattle.pcard_call.specs.{IsCall, given_of}
+pub use Rattle.pcard_files.specs.Call.{AnswersNamed, NamesType}
+pub use Rattle.pcard_files.specs.Fault.{Tells, fault_status, fault_text}
+pub use Rattle.pcard_files.specs.Input.{AnswersCall, MayHave, open_fault}
+pub use Rattle.pcard_files.specs.Operands.{AreNoCall, IsOnlyCall, IsTypeAt, NamesInput, reads_bytes}
+pub use Rattle.pcard_files.specs.Operands.{takes_type}
+pub use Rattle.pcard_files.specs.TypeName.{Declares, IsFaultBy, IsFaultOf, IsNameWord}
+pub use Rattle.pcard_files.specs.declared.fault.TypeFault.TheVariants.{TooLong}
+pub use Rattle.pcard_files.specs.declared.files.ReadError.TheVariants.{Failed}

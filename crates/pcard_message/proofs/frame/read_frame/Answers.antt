@@ -1,0 +1,5 @@
+use Rattle.pcard_message.proofs.ReadingLemmas.{no_content}
+use Rattle.pcard_message.proofs.frame.read_frame.Goals as goal
+
+pub returns-in-None : goal.returns-in-None
+returns-in-None c free = no_content _ _ _ (c.in-None.ensures.none free) c.refuse.ensures

@@ -1,0 +1,32 @@
+-- How `dec` and `decs` fail.
+use Rattle.std.specs.Prelude.{◌≡◌, ◌⊎◌, ℕ, ⊤, false, List, Option, None}
+use Rattle.postcard_wire.specs.declared.error.Error.TheVariants as errors
+use Rattle.postcard_schema.specs.Meaning.{has_bytes, type_of}
+use Rattle.pcard_message.specs.Reading.{PrintsRefusal, StopsPrinting}
+use Rattle.pcard_message.specs.Receiving.{LacksLine}
+use Rattle.pcard_message.specs.declared.failure.Failure.{Failure}
+use Rattle.pcard_message.specs.declared.failure.Failure.TheVariants.{Library, NoBytes, Output, Refused}
+use Rattle.pcard_message.specs.declared.format.Format.{Format}
+
+-- Messages of the format may have no bytes: they have no frame and no checksum, and the type's have none.
+abbrev pub LacksBytes : Format → Type 0
+LacksBytes format = (format.framed ≡ false) × (format.checksum ≡ None) × (has_bytes (type_of format.schema) ≡ false)
+
+-- The failures of printing the value of the first message or frame of bytes, before which there are `before`.
+abbrev pub NextFails : Format → ℕ → List ℕ → Option (List ℕ) → Option (List ℕ) → Failure → Type 0
+NextFails format before bytes old new Refused = PrintsRefusal format before bytes old new
+NextFails format before bytes old new (Library e) = (e ≡ errors.OutOfMemory) ⊎ LacksLine format.notation e
+NextFails format before bytes old new Output = ⊤
+NextFails format before bytes old new failure = ⊥
+
+-- The failures of `dec`.
+abbrev pub DecodeFails : Format → List ℕ → Option (List ℕ) → Option (List ℕ) → Failure → Type 0
+DecodeFails format bytes old new e = NextFails format 0 bytes old new e
+
+-- The failures of `decs`.
+abbrev pub DecodeAllFails : Format → List ℕ → Option (List ℕ) → Option (List ℕ) → Failure → Type 0
+DecodeAllFails format bytes old new Refused = StopsPrinting format bytes old new
+DecodeAllFails format bytes old new NoBytes = LacksBytes format × (new ≡ old)
+DecodeAllFails format bytes old new (Library e) = (e ≡ errors.OutOfMemory) ⊎ LacksLine format.notation e
+DecodeAllFails format bytes old new Output = ⊤
+DecodeAllFails format bytes old new failure = ⊥

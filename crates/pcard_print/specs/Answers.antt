@@ -1,0 +1,34 @@
+-- What is found in the bytes of a message or a frame: a value, or why there is none.
+use Rattle.std.specs.Prelude.{ℕ, List, Option, option_map}
+use Rattle.std.specs.Borrow.{Bor}
+use Rattle.postcard_schema.specs.Paths.{path_text}
+use Rattle.postcard_value.specs.declared.value.Value.{Value}
+use Rattle.pcard_print.specs.declared.answer.Answer.{Answer as AnswerHere}
+use Rattle.pcard_print.specs.declared.answer.Answer.TheVariants as answers
+use Rattle.pcard_print.specs.declared.refusal.Reason.{Reason}
+use Rattle.pcard_print.specs.declared.refusal.Refusal.{Refusal}
+
+-- Why bytes have no value: the offset of the part that can't be read, or 0 for a frame, the reason, the text of the part's path, and the bytes
+-- that are shown, if it is a frame.
+pub record Why : Type 0 where
+  pub offset : ℕ
+  pub reason : Reason
+  pub path : List ℕ
+  pub shown : Option (List ℕ)
+
+-- Bytes as a list, wherever they are in memory.
+abbrev pub plain : Option (Bor (List ℕ)) → Option (List ℕ)
+plain shown = option_map (λ (bytes : Bor (List ℕ)). bytes.now) shown
+
+-- A refusal as what it says, wherever its path and its bytes are in memory.
+abbrev pub why : Refusal → Why
+why r = record { offset = r.offset; reason = r.reason; path = path_text r.path.steps.items; shown = plain r.shown }
+
+-- What is found: a value and the bytes of the data after it, or why there is none.
+pub data Answer : Type 0 where
+  value : Value → List ℕ → Answer
+  refused : Why → Answer
+
+abbrev pub plain_answer : AnswerHere → Answer
+plain_answer (answers.Value v rest) = value v rest.now
+plain_answer (answers.Refused r) = refused (why r)

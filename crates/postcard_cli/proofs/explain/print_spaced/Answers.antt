@@ -1,9 +1,0 @@
-use Rattle.std.proofs.Common.{arith}
-use Rattle.std.proofs.KnownBytes.{Appends-trans}
-use Rattle.postcard_cli.proofs.ExplainLemmas.{spaced_more}
-use Rattle.postcard_cli.proofs.explain.print_spaced.Goals as goal
-
-pub loop-byte-preserved : goal.loop-byte-preserved
-loop-byte-preserved g c =
-    rw (spaced_more c.args.bytes.now c.loop-byte.byte-index (omega arith))
-    (Appends-trans _ _ _ _ _ c.loop-byte.invariant (Appends-trans _ _ _ _ _ c.in_ok-write.ensures c.in_ok-write_all.ensures.bytes))

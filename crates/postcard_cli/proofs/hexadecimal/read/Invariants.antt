@@ -1,9 +1,0 @@
-use Rattle.std.proofs.Common.{length}
-use Rattle.postcard_cli.proofs.Digits.{IsBefore}
-use Rattle.postcard_cli.proofs.hexadecimal.read.Given as goal
-
-abbrev pub invariant-pairs : goal.invariant-pairs
-invariant-pairs l = IsBefore l.text l.bytes.items l.rest
-
-abbrev pub decreases-pairs : goal.decreases-pairs
-decreases-pairs l = length l.rest

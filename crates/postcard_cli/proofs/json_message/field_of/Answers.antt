@@ -1,9 +1,0 @@
-use Rattle.std.proofs.Common.{◌<◌, ◌∙◌, length, arith}
-use Rattle.std.proofs.lemmas.Grind.{common_steps}
-use Rattle.postcard_cli.proofs.JsonLemmas.{field_shown}
-use Rattle.postcard_cli.proofs.json_message.field_of.Goals as goal
-
-pub returns : goal.returns
-returns c =
-    let some : 0 < length c.args.path.now = grind (arith, common_steps) in
-    c.in_ok-field.ensures.ok ∙ rw c.in_ok-name.ensures (field_shown c.args.path.now some)

@@ -1,6 +1,0 @@
-use Rattle.postcard_cli.proofs.PastedLemmas.{line_refused}
-use Rattle.postcard_cli.proofs.pasted.read_line.Goals as goal
-
-pub returns-clause-refused : goal.returns-clause-refused
-returns-clause-refused c =
-    line_refused c.args.dump c.args.line.now c.args.text.now _ c.args.place _ c.read_words.result c.column-start.ensures.start c.column-start.ensures.column c.read_words.ensures.refused

@@ -1,6 +1,0 @@
-use Rattle.std.proofs.Common.{◌≡◌, ◌++◌, take, drop}
-use Rattle.postcard_cli.specs.Hexadecimal.{up_to}
-use Rattle.postcard_cli.proofs.pasted.up_to.Given as goal
-
-abbrev pub invariant-loop-end : goal.invariant-loop-end
-invariant-loop-end l = up_to l.mark l.text ≡ take l.end l.text ++ up_to l.mark (drop l.end l.text)

@@ -1,5 +1,0 @@
-pub mod ColonLemmas
-pub mod FileLemmas
-pub mod InputLemmas
-pub mod OptionLemmas
-pub mod WordLemmas

@@ -1,0 +1,109 @@
+-- Schemas by their kind, and parts one after the other.
+use Rattle.std.proofs.Common.{◌≡◌, ℕ, zero, suc, ◌+◌, ◌<◌, ◌≤◌, List, [], ◌∷◌, length, get_or, drop, Vec, Box, sym, ap, subst, ◌∙◌, arith}
+use Rattle.std.proofs.Math.Seq.{drop-cons}
+use Rattle.std.proofs.Math.ListN.{drop_of_length-le}
+use Rattle.std.specs.declared.alloc.Global.{Global}
+use Rattle.postcard_schema.specs.declared.leaf.Leaf.{Leaf}
+use Rattle.postcard_schema.specs.declared.schema.Named.{Named}
+use Rattle.postcard_schema.specs.declared.schema.Schema.{Schema}
+use Rattle.postcard_schema.specs.declared.schema.Schema.TheVariants as schemas
+use Rattle.postcard_schema.specs.Meaning.{MessageType, leaf, option, seq, array, group, choice, no_types, then_type, entry_of, contents, reads, reads_all, reads_at, type_of, types_of}
+use Rattle.postcard_schema.specs.Lemmas.{type_of_leaf, type_of_option, type_of_seq, type_of_map, type_of_array, type_of_tuple, type_of_struct, type_of_enum}
+use Rattle.postcard_compat.specs.Said.{said, said_all, said_at}
+use Rattle.postcard_compat.specs.Serving.{Serves, AllServe, VariantsServe}
+use Rattle.postcard_compat.proofs.Served.{option_serves, seq_serves, array_serves, group_serves, choice_serves, end_serves, then_serves, none_serve, variant_serves}
+
+by : (n o x y : MessageType) → n ≡ x → o ≡ y → Serves x y → Serves n o
+by n o x y en eo h = subst (λ z. Serves n z) (sym eo) (subst (λ z. Serves z y) (sym en) h)
+
+pub of_leaf : (s n : Schema) (o w : Leaf) → s ≡ schemas.Leaf o → n ≡ schemas.Leaf w → Serves (leaf w) (leaf o) → Serves (type_of n) (type_of s)
+of_leaf s n o w is new_is h = by (type_of n) (type_of s) (leaf w) (leaf o) (ap type_of new_is ∙ type_of_leaf w) (ap type_of is ∙ type_of_leaf o) h
+
+-- What is held in boxes serves, if it does outside of them.
+held : (d e : Schema) (a b : Box Schema Global) → d ≡ a.value → e ≡ b.value → Serves (type_of e) (type_of d) → Serves (type_of b.value) (type_of a.value)
+held d e a b is new_is = by (type_of b.value) (type_of a.value) (type_of e) (type_of d) (ap type_of (sym new_is)) (ap type_of (sym is))
+
+module _ (s n d e : Schema) (a b : Box Schema Global) (old_held : d ≡ a.value) (new_held : e ≡ b.value) (h : Serves (type_of e) (type_of d)) where
+  within : Serves (type_of b.value) (type_of a.value)
+  within = held d e a b old_held new_held h
+
+  pub of_option : s ≡ schemas.Option a → n ≡ schemas.Option b → Serves (type_of n) (type_of s)
+  of_option is new_is = by (type_of n) (type_of s) (option (type_of b.value)) (option (type_of a.value)) (ap type_of new_is ∙ type_of_option b) (ap type_of is ∙ type_of_option a)
+      (option_serves (reads (type_of b.value)) (said (type_of b.value)) (reads (type_of a.value)) (said (type_of a.value)) within)
+
+  pub of_seq : s ≡ schemas.Seq a → n ≡ schemas.Seq b → Serves (type_of n) (type_of s)
+  of_seq is new_is = by (type_of n) (type_of s) (seq (type_of b.value)) (seq (type_of a.value)) (ap type_of new_is ∙ type_of_seq b) (ap type_of is ∙ type_of_seq a)
+      (seq_serves (reads (type_of b.value)) (said (type_of b.value)) (reads (type_of a.value)) (said (type_of a.value)) within)
+
+  pub of_array : (j k : ℕ) → j ≡ k → s ≡ schemas.Array a j → n ≡ schemas.Array b k → Serves (type_of n) (type_of s)
+  of_array j k same is new_is = by (type_of n) (type_of s) (array k (type_of b.value)) (array k (type_of a.value))
+      (ap type_of new_is ∙ type_of_array b k) (ap type_of is ∙ (type_of_array a j ∙ ap (λ m. array m (type_of a.value)) same))
+      (array_serves (reads (type_of b.value)) (said (type_of b.value)) (reads (type_of a.value)) (said (type_of a.value)) within k)
+
+entries_serve : (k v x y : MessageType) → Serves k x → Serves v y → Serves (entry_of k v) (entry_of x y)
+entries_serve k v x y hk hv =
+    let ns = then_type k (then_type v no_types) in
+    let os = then_type x (then_type y no_types) in
+    group_serves (reads_all ns) (said_all ns) (reads_all os) (said_all os)
+    (then_serves k x (then_type v no_types) (then_type y no_types) hk (then_serves v y no_types no_types hv end_serves))
+
+pub of_map : (s n : Schema) (a x b y : Box Schema Global) (da dx db dy : Schema) → da ≡ a.value → dx ≡ x.value → db ≡ b.value → dy ≡ y.value
+    → Serves (type_of db) (type_of da) → Serves (type_of dy) (type_of dx) → s ≡ schemas.Map a x → n ≡ schemas.Map b y → Serves (type_of n) (type_of s)
+of_map s n a x b y da dx db dy ea ex eb ey key value is new_is =
+    let new = entry_of (type_of b.value) (type_of y.value) in
+    let old = entry_of (type_of a.value) (type_of x.value) in
+    by (type_of n) (type_of s) (seq new) (seq old) (ap type_of new_is ∙ type_of_map b y) (ap type_of is ∙ type_of_map a x)
+    (seq_serves (reads new) (said new) (reads old) (said old)
+    (entries_serve (type_of b.value) (type_of y.value) (type_of a.value) (type_of x.value) (held da db a b ea eb key) (held dx dy x y ex ey value)))
+
+-- As many parts as there are, each of which serves the one at its place, serve.
+all_serve : (ns os : List Schema) → length os ≡ length ns → VariantsServe (types_of ns) (types_of os) → AllServe (types_of ns) (types_of os)
+all_serve [] [] e h = end_serves
+all_serve [] (o ∷ os) e h = absurd (omega (arith, e))
+all_serve (n ∷ ns) [] e h = absurd (omega (arith, e))
+all_serve (n ∷ ns) (o ∷ os) e h = then_serves (type_of n) (type_of o) (types_of ns) (types_of os) (h 0) (all_serve ns os (omega (arith, e)) (λ i. h (suc i)))
+
+of_group : (s n : Schema) (os ns : List Schema) → type_of s ≡ group (types_of os) → type_of n ≡ group (types_of ns) → length os ≡ length ns
+    → VariantsServe (types_of ns) (types_of os) → Serves (type_of n) (type_of s)
+of_group s n os ns is new_is many h = by (type_of n) (type_of s) (group (types_of ns)) (group (types_of os)) new_is is
+    (group_serves (reads_all (types_of ns)) (said_all (types_of ns)) (reads_all (types_of os)) (said_all (types_of os)) (all_serve ns os many h))
+
+pub of_tuple : (s n : Schema) (v : Vec Schema Global) (ns : List Schema) → s ≡ schemas.Tuple v → type_of n ≡ group (types_of ns) → length v.items ≡ length ns
+    → VariantsServe (types_of ns) (types_of v.items) → Serves (type_of n) (type_of s)
+of_tuple s n v ns is = of_group s n v.items ns (ap type_of is ∙ type_of_tuple v)
+
+pub of_struct : (s n : Schema) (v : Vec (Named Schema) Global) (ns : List Schema) → s ≡ schemas.Struct v → type_of n ≡ group (types_of ns)
+    → length (contents v.items) ≡ length ns → VariantsServe (types_of ns) (types_of (contents v.items)) → Serves (type_of n) (type_of s)
+of_struct s n v ns is = of_group s n (contents v.items) ns (ap type_of is ∙ type_of_struct v)
+
+pub of_enum : (s n : Schema) (v w : Vec (Named Schema) Global) → s ≡ schemas.Enum v → n ≡ schemas.Enum w
+    → VariantsServe (types_of (contents w.items)) (types_of (contents v.items)) → Serves (type_of n) (type_of s)
+of_enum s n v w is new_is h =
+    let ns = types_of (contents w.items) in
+    let os = types_of (contents v.items) in
+    by (type_of n) (type_of s) (choice ns) (choice os) (ap type_of new_is ∙ type_of_enum w) (ap type_of is ∙ type_of_enum v)
+    (choice_serves (reads_at ns) (said_at ns) (reads_at os) (said_at os) h)
+
+-- ---- Parts
+
+pub content_get : (ns : List (Named Schema)) (i : ℕ) (n : Named Schema) → i < length ns → n ≡ get_or ns i n → n.content ≡ get_or (contents ns) i n.content
+content_get [] i n low e = absurd (omega (arith, low))
+content_get (x ∷ xs) zero n low e = ap (λ z. z.content) e
+content_get (x ∷ xs) (suc i) n low e = content_get xs i n (omega (arith, low)) e
+
+cut : (xs : List Schema) (k : ℕ) (x : Schema) → k < length xs → x ≡ get_or xs k x → drop k xs ≡ x ∷ drop (k + 1) xs
+cut xs k x h e =
+    let next : suc k ≡ k + 1 = omega arith in
+    drop-cons xs k x h ∙ ap (λ y. y ∷ drop (suc k) xs) (sym e) ∙ ap (λ n. x ∷ drop n xs) next
+
+-- If the parts from k on serve, if those after k do, all do.
+pub parts_next : (ns os : List Schema) (k : ℕ) (n o : Schema) {Z : Type 0} → k < length ns → n ≡ get_or ns k n → k < length os → o ≡ get_or os k o → Serves (type_of n) (type_of o)
+    → (VariantsServe (types_of (drop k ns)) (types_of (drop k os)) → Z) → VariantsServe (types_of (drop (k + 1) ns)) (types_of (drop (k + 1) os)) → Z
+parts_next ns os k n o ln en lo eo h all rest =
+    all (subst (λ ys. VariantsServe (types_of ys) (types_of (drop k os))) (sym (cut ns k n ln en))
+    (subst (λ ys. VariantsServe (types_of (n ∷ drop (k + 1) ns)) (types_of ys)) (sym (cut os k o lo eo))
+    (variant_serves (type_of n) (type_of o) (types_of (drop (k + 1) ns)) (types_of (drop (k + 1) os)) h rest)))
+
+pub parts_end : (ns os : List Schema) (k : ℕ) {Z : Type 0} → length os ≤ k → (VariantsServe (types_of (drop k ns)) (types_of (drop k os)) → Z) → Z
+parts_end ns os k high all =
+    all (subst (λ ys. VariantsServe (types_of (drop k ns)) (types_of ys)) (sym (drop_of_length-le os high)) (none_serve (types_of (drop k ns))))

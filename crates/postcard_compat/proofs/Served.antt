@@ -1,0 +1,80 @@
+-- What serves is made of parts that serve.
+use Rattle.std.proofs.Common.{◌≡◌, ℕ, zero, suc, inl, inr, List, [], ◌∷◌, ◌++◌, refl, sym, ap, ap₂, subst, ◌∙◌, arith}
+use Rattle.postcard_wire.specs.Number.{SpellsNum}
+use Rattle.postcard_wire.specs.Tree.{Tree, Trees, Absent, Present, Group, Seq, Variant, NoTrees, Then, count}
+use Rattle.postcard_wire.specs.Reading.{IsOption, IsGroup, IsSeq, IsArray, IsVariant, Each}
+use Rattle.postcard_wire.specs.Spelling.{Spells, SpellsAll}
+use Rattle.postcard_schema.specs.Meaning.{MessageType, MessageTypes, no_types, then_type}
+use Rattle.postcard_compat.specs.Said.{Word, Saying, Something, Count, Index, End, said_all, each_said, option_said, list_said, array_said, group_said, choice_said}
+use Rattle.postcard_compat.specs.Serving.{SetServes, RowServes, Serves, AllServe, VariantsServe}
+
+-- A set serves itself, and what a server serves is served.
+pub itself : (P : Tree → Type 0) (f : Saying) → SetServes P f P f
+itself P f t r = (t, r, refl, λ p k. k)
+
+pub through : (P : Tree → Type 0) (f : Saying) (Q : Tree → Type 0) (g : Saying) (R : Tree → Type 0) (h : Saying) → SetServes P f Q g → SetServes Q g R h → SetServes P f R h
+through P f Q g R h one two t r =
+    let (s, q, same, spelled) = two t r in
+    let (u, p, again, more) = one s q in
+    (u, p, again ∙ same, λ l k. more l (spelled l k))
+
+module _ (P : Tree → Type 0) (f : Saying) (Q : Tree → Type 0) (g : Saying) (h : SetServes P f Q g) where
+  pub option_serves : SetServes (IsOption P) (option_said f) (IsOption Q) (option_said g)
+  option_serves t (inl e) = (Absent, inl refl, sym (ap (option_said g) e), λ p k. rw e at k)
+  option_serves t (inr (u, e, q)) =
+      let (s, r, same, spelled) = h u q in
+      let says : option_said f (Present s) ≡ option_said g (Present u) = ap (λ (ws : List Word). Something ∷ (ws ++ End ∷ [])) same in
+      (Present s, inr (s, refl, r), says ∙ sym (ap (option_said g) e), λ p k. let l : Spells (Present u) p = rw e at k in (l.0, l.1, l.2, spelled l.1 l.3, l.4))
+
+  pub each_serve : (ts : Trees) → Each Q ts → (ss : Trees) × Each P ss × (count ss ≡ count ts) × (each_said f ss ≡ each_said g ts) × ((p : List ℕ) → SpellsAll ts p → SpellsAll ss p)
+  each_serve NoTrees q = (NoTrees, tt, refl, refl, λ p k. k)
+  each_serve (Then t ts) q =
+      let (s, r, same, spelled) = h t q.0 in
+      let (ss, rs, many, sames, all) = each_serve ts q.1 in
+      (Then s ss, (r, rs), ap (λ n. suc n) many, ap₂ (λ (a b : List Word). a ++ End ∷ b) same sames, λ p k. (k.0, k.1, spelled k.0 k.2, all k.1 k.3, k.4))
+
+  pub seq_serves : SetServes (IsSeq P) (list_said f) (IsSeq Q) (list_said g)
+  seq_serves t (ts, e, few, q) =
+      let (ss, rs, many, same, all) = each_serve ts q in
+      let says : list_said f (Seq ss) ≡ list_said g (Seq ts) = ap₂ (λ (n : ℕ) (ws : List Word). Count n ∷ ws) many same in (
+        Seq ss,
+        (ss, refl, omega (arith, few, many), rs),
+        says ∙ sym (ap (list_said g) e),
+        λ p k. let l : Spells (Seq ts) p = rw e at k in (l.0, l.1, subst (λ n. SpellsNum 64 n l.0) (sym many) l.2, all l.1 l.3, l.4),
+      )
+
+  pub array_serves : (n : ℕ) → SetServes (IsArray n P) (array_said f) (IsArray n Q) (array_said g)
+  array_serves n t (ts, e, is, q) =
+      let (ss, rs, many, same, all) = each_serve ts q in
+      let says : array_said f (Group ss) ≡ array_said g (Group ts) = same in
+      (Group ss, (ss, refl, many ∙ is, rs), says ∙ sym (ap (array_said g) e), λ p k. let l : Spells (Group ts) p = rw e at k in all p l)
+
+pub group_serves : (P : Trees → Type 0) (f : Trees → List Word) (Q : Trees → Type 0) (g : Trees → List Word) → RowServes P f Q g → SetServes (IsGroup P) (group_said f) (IsGroup Q) (group_said g)
+group_serves P f Q g h t (ts, e, q) =
+    let (ss, r, same, all) = h ts q in
+    let says : group_said f (Group ss) ≡ group_said g (Group ts) = same in
+    (Group ss, (ss, refl, r), says ∙ sym (ap (group_said g) e), λ p k. let l : Spells (Group ts) p = rw e at k in all p l)
+
+pub choice_serves : (P : ℕ → Tree → Type 0) (f : ℕ → Saying) (Q : ℕ → Tree → Type 0) (g : ℕ → Saying) → ((i : ℕ) → SetServes (P i) (f i) (Q i) (g i)) → SetServes (IsVariant P) (choice_said f) (IsVariant Q) (choice_said g)
+choice_serves P f Q g h t (i, u, e, few, q) =
+    let (s, r, same, spelled) = h i u q in
+    let says : choice_said f (Variant i s) ≡ choice_said g (Variant i u) = ap (λ (ws : List Word). Index i ∷ (ws ++ End ∷ [])) same in
+    (Variant i s, (i, s, refl, few, r), says ∙ sym (ap (choice_said g) e), λ p k. let l : Spells (Variant i u) p = rw e at k in (l.0, l.1, l.2, spelled l.1 l.3, l.4))
+
+pub end_serves : AllServe no_types no_types
+end_serves ts e = (NoTrees, refl, refl, λ p k. rw e at k)
+
+pub then_serves : (n o : MessageType) (ns os : MessageTypes) → Serves n o → AllServe ns os → AllServe (then_type n ns) (then_type o os)
+then_serves n o ns os h hs ts (u, us, e, q, qs) =
+    let (s, r, same, spelled) = h u q in
+    let (ss, rs, sames, all) = hs us qs in
+    let says : said_all (then_type n ns) (Then s ss) ≡ said_all (then_type o os) (Then u us) = ap₂ (λ (a b : List Word). a ++ b) same sames in
+    (Then s ss, (s, ss, refl, r, rs), says ∙ sym (ap (said_all (then_type o os)) e), λ p k. let l : SpellsAll (Then u us) p = rw e at k in (l.0, l.1, spelled l.0 l.2, all l.1 l.3, l.4))
+
+-- No variant is served by any.
+pub none_serve : (ns : MessageTypes) → VariantsServe ns no_types
+none_serve ns i t r = absurd r
+
+pub variant_serves : (n o : MessageType) (ns os : MessageTypes) → Serves n o → VariantsServe ns os → VariantsServe (then_type n ns) (then_type o os)
+variant_serves n o ns os h hs zero = h
+variant_serves n o ns os h hs (suc i) = hs i

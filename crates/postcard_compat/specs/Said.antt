@@ -1,0 +1,105 @@
+-- What a message says, whatever its bytes: its parts without parts, in order. Groups say nothing of their own, so a struct in a struct
+-- says what its fields say, and names say nothing.
+use Rattle.std.specs.Prelude.{ℕ, zero, suc, ℤ, pos, Bool, true, false, List, [], ◌∷◌, ◌++◌}
+use Rattle.postcard_wire.specs.Tree.{Tree, Trees, Byte, Boolean, Num, Int, Text, Absent, Present, Group, Seq, Variant, NoTrees, Then, count}
+use Rattle.postcard_wire.specs.Tree as nodes
+use Rattle.postcard_shape.specs.Base256.{low_value}
+use Rattle.postcard_schema.specs.declared.leaf.Integer.{Integer}
+use Rattle.postcard_schema.specs.declared.leaf.Leaf.{Leaf}
+use Rattle.postcard_schema.specs.declared.leaf.Leaf.TheVariants as leaves
+use Rattle.postcard_schema.specs.Leaves.{float_size, is_signed, size_of}
+use Rattle.postcard_schema.specs.Meaning.{MessageType, MessageTypes, leaf, option, seq, array, group, choice, no_types, then_type}
+use Rattle.postcard_value.specs.Numbers.{bytes_of, order_of, signed_of}
+
+-- One thing that is said: a value without parts, whatever its width; of a list the number of its elements, of an enum the index of
+-- the variant, and of an option whether there is a value. What is said of an element, a variant's content or an option's value ends
+-- with `End`.
+pub data Word : Type 0 where
+  Truth : Bool → Word
+  Number : ℤ → Word
+  Float : (size bits : ℕ) → Word
+  Letter : ℕ → Word
+  Phrase : List ℕ → Word
+  Nothing : Word
+  Something : Word
+  Count : ℕ → Word
+  Index : ℕ → Word
+  End : Word
+
+-- What the trees of a set say.
+abbrev pub Saying : Type 0
+Saying = Tree → List Word
+
+-- The number of these bytes, in two's complement if the first argument is true.
+abbrev pub fixed_number : Bool → ℕ → ℕ → ℤ
+fixed_number true k n = signed_of k n
+fixed_number false k n = pos n
+
+abbrev pub each_said : Saying → Trees → List Word
+each_said says NoTrees = []
+each_said says (Then t ts) = says t ++ End ∷ each_said says ts
+
+abbrev pub byte_said : Saying
+byte_said (Byte b) = Number (pos b) ∷ []
+byte_said t = []
+
+-- A byte, or a varint with or without a sign.
+abbrev pub integer_said : Integer → Saying
+integer_said integer (Byte b) = Number (fixed_number (is_signed integer) 1 b) ∷ []
+integer_said integer (Num w n) = Number (pos n) ∷ []
+integer_said integer (Int w z) = Number z ∷ []
+integer_said integer t = []
+
+abbrev pub leaf_said : Leaf → Saying
+leaf_said leaves.Bool (Boolean x) = Truth x ∷ []
+leaf_said (leaves.Integer integer) t = integer_said integer t
+leaf_said (leaves.Float float) (Group ts) = Float (float_size float) (low_value (bytes_of ts)) ∷ []
+leaf_said leaves.Char (nodes.Char c) = Letter c ∷ []
+leaf_said leaves.Str (Text u) = Phrase u ∷ []
+leaf_said leaves.Bytes (Seq ts) = Count (count ts) ∷ each_said byte_said ts
+leaf_said (leaves.Fixed order integer) (Group ts) = Number (fixed_number (is_signed integer) (size_of integer) ((order_of order).value (bytes_of ts))) ∷ []
+leaf_said l t = []
+
+abbrev pub option_said : Saying → Saying
+option_said says Absent = Nothing ∷ []
+option_said says (Present t) = Something ∷ (says t ++ End ∷ [])
+option_said says t = []
+
+abbrev pub list_said : Saying → Saying
+list_said says (Seq ts) = Count (count ts) ∷ each_said says ts
+list_said says t = []
+
+abbrev pub array_said : Saying → Saying
+array_said says (Group ts) = each_said says ts
+array_said says t = []
+
+abbrev pub group_said : (Trees → List Word) → Saying
+group_said say (Group ts) = say ts
+group_said say t = []
+
+abbrev pub choice_said : (ℕ → Saying) → Saying
+choice_said says (Variant i t) = Index i ∷ (says i t ++ End ∷ [])
+choice_said says t = []
+
+abbrev pub then_said : Saying → (Trees → List Word) → Trees → List Word
+then_said says say (Then t ts) = says t ++ say ts
+then_said says say ts = []
+
+-- What a tree of a type says.
+abbrev mutual
+  pub said : MessageType → Saying
+  said (leaf l) = leaf_said l
+  said (option x) = option_said (said x)
+  said (seq x) = list_said (said x)
+  said (array n x) = array_said (said x)
+  said (group xs) = group_said (said_all xs)
+  said (choice xs) = choice_said (said_at xs)
+
+  pub said_all : MessageTypes → Trees → List Word
+  said_all no_types = λ ts. []
+  said_all (then_type x xs) = then_said (said x) (said_all xs)
+
+  pub said_at : MessageTypes → ℕ → Saying
+  said_at no_types i = λ t. []
+  said_at (then_type x xs) zero = said x
+  said_at (then_type x xs) (suc i) = said_at xs i

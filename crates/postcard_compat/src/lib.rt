@@ -1,0 +1,105 @@
+//! Whether a new version of a type reads what the old version wrote.
+//!
+//! [`serves`] compares two schemas. If it returns `true`, the new type reads each message of the old
+//! type, and the message says the same. `false` promises nothing. [`both`] finds a type that reads
+//! the messages of two versions. The [`laws`] say what follows for the bytes.
+//!
+//! `specs/Said.antt` defines what a message says, and `specs/Serving.antt` when a type serves
+//! another. Names take no bytes, so they aren't compared.
+//!
+//! Types that are grouped otherwise, such as `((u8, u8), u8)` and `(u8, u8, u8)`, aren't recognized
+//! yet: `serves` returns `false`. The crate doesn't list differences yet.
+#![tactic(auto)]
+
+ghost use Rattle.std.specs.Prelude.{◌≡◌, true};
+ghost use Rattle.postcard_compat.specs.{Serves, VariantsServe, contents, parts_of, type_of};
+ghost use Rattle.postcard_compat.specs.{types_of};
+
+pub mod common;
+pub mod laws;
+mod numbers;
+mod row;
+
+pub use common::both;
+use numbers::leaf_serves;
+use postcard_schema::{Named, Schema};
+use row::{Row, group_row};
+
+/// Returns `true` if the new type reads every message of the old one, in every encoding, as a
+/// message that says the same. `false` promises nothing.
+///
+/// Integers may become wider, and an enum may have more variants. Structs and tuples are compared by
+/// their parts. The rest of the two types must be equal.
+#[cycle(serves)]
+pub fn serves(old: &Schema, new: &Schema) -> bool
+    ensures { result ≡ true → Serves (type_of new.now) (type_of old.now) }
+{
+    match old {
+        Schema::Leaf(old) => match new {
+            Schema::Leaf(new) => leaf_serves(*old, *new),
+            _ => false,
+        },
+        Schema::Option(old) => match new {
+            Schema::Option(new) => serves(old, new),
+            _ => false,
+        },
+        Schema::Seq(old) => match new {
+            Schema::Seq(new) => serves(old, new),
+            _ => false,
+        },
+        Schema::Map(old_key, old_value) => match new {
+            Schema::Map(key, value) => serves(old_key, key) && serves(old_value, value),
+            _ => false,
+        },
+        Schema::Array(old, old_count) => match new {
+            Schema::Array(new, count) => old_count == count && serves(old, new),
+            _ => false,
+        },
+        Schema::Tuple(old) => match group_row(new) {
+            Some(new) => old.len() == new.len() && parts_serve(old, new),
+            None => false,
+        },
+        Schema::Struct(old) => match group_row(new) {
+            Some(new) => old.len() == new.len() && named_serve(old, new),
+            None => false,
+        },
+        Schema::Enum(old) => match new {
+            Schema::Enum(new) => named_serve(old, Row::Named(new)),
+            _ => false,
+        },
+    }
+}
+
+/// Returns `true` if each part has one at its place in the new row that serves it.
+#[cycle(serves)]
+fn parts_serve(old: &Vec<Schema>, new: Row<'_>) -> bool
+    ensures { result ≡ true → VariantsServe (types_of (parts_of new.entry))
+        (types_of old.now.items) }
+{
+    for (index, part) in old.iter().enumerate() {
+        let Some(other) = new.get(index) else {
+            return false;
+        };
+        if !serves(part, other) {
+            return false;
+        }
+    }
+    true
+}
+
+/// Returns `true` if each field or variant has one at its place in the new row that serves it.
+#[cycle(serves)]
+fn named_serve(old: &Vec<Named<Schema>>, new: Row<'_>) -> bool
+    ensures { result ≡ true → VariantsServe (types_of (parts_of new.entry))
+        (types_of (contents old.now.items)) }
+{
+    for (index, part) in old.iter().enumerate() {
+        let Some(other) = new.get(index) else {
+            return false;
+        };
+        if !serves(&part.content, other) {
+            return false;
+        }
+    }
+    true
+}

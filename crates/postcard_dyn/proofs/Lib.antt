@@ -1,4 +1,0 @@
-pub mod Parts
-pub mod Bytes
-pub mod ExplainLemmas
-pub mod PlaceLemmas

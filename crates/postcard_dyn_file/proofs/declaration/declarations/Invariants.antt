@@ -1,6 +1,0 @@
--- The declarations so far are those of the items that were read.
-use Rattle.postcard_dyn_file.specs.Items.{AreDeclaredBefore}
-use Rattle.postcard_dyn_file.proofs.declaration.declarations.Given as goal
-
-abbrev pub invariant-loop-at : goal.invariant-loop-at
-invariant-loop-at l = AreDeclaredBefore l.tokens l.at l.known.items

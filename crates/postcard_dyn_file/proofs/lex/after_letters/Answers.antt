@@ -1,9 +1,0 @@
-use Rattle.std.proofs.Common.{rules}
-use Rattle.postcard_dyn_file.specs.Steps.{none, more}
-use Rattle.postcard_dyn_file.proofs.lex.after_letters.Goals as goal
-
-pub loop-init : goal.loop-init
-loop-init c = none
-
-pub loop-preserved : goal.loop-preserved
-loop-preserved c = more c.loop.invariant (search rules)

@@ -1,8 +1,0 @@
--- The letters so far aren't the quote.
-use Rattle.std.proofs.Common.{◌≡◌, List, ℕ, ◌∷◌}
-use Rattle.postcard_dyn_file.specs.Steps.{Steps}
-use Rattle.postcard_dyn_file.specs.Lexical.{IsLetter}
-use Rattle.postcard_dyn_file.proofs.lex.after_letters.Given as goal
-
-abbrev pub invariant-loop : goal.invariant-loop
-invariant-loop l = Steps (λ a b. IsLetter a b × ((after : List ℕ) → a ≡ l.quote ∷ after → ⊥)) l.text l.rest

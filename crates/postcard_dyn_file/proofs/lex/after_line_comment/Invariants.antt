@@ -1,9 +1,0 @@
--- The letters so far are no new line.
-use Rattle.std.proofs.Common.{◌≡◌, ℕ, ◌-◌, ◌<◌, ◌≤◌, length, get_or}
-use Rattle.postcard_dyn_file.proofs.lex.after_line_comment.Given as goal
-
-abbrev pub invariant-letters : goal.invariant-letters
-invariant-letters l = (l.count ≤ length l.line) × ((i : ℕ) → i < l.count → get_or l.line i 0 ≡ 10 → ⊥)
-
-abbrev pub decreases-letters : goal.decreases-letters
-decreases-letters l = length l.line - l.count

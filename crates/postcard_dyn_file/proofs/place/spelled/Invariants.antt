@@ -1,7 +1,0 @@
--- The text so far is that of the words so far.
-use Rattle.std.proofs.Common.{◌≡◌, take, string_bytes}
-use Rattle.postcard_dyn_file.specs.Tokens.{spelling}
-use Rattle.postcard_dyn_file.proofs.place.spelled.Given as goal
-
-abbrev pub invariant-loop-word : goal.invariant-loop-word
-invariant-loop-word l = string_bytes l.text ≡ spelling (take l.word-index l.words)

@@ -1,7 +1,0 @@
--- At no byte so far the literal ends.
-use Rattle.std.proofs.Common.{◌≡◌, List, ℕ, ◌∷◌, ◌++◌}
-use Rattle.postcard_dyn_file.specs.Steps.{Steps}
-use Rattle.postcard_dyn_file.proofs.raw.after_raw.Given as goal
-
-abbrev pub invariant-loop : goal.invariant-loop
-invariant-loop l = Steps (λ a b. ((letter : ℕ) × (a ≡ letter ∷ b)) × ((after : List ℕ) → a ≡ 34 ∷ l.hashes ++ after → ⊥)) l.text l.rest

@@ -1,6 +1,0 @@
-use Rattle.std.proofs.Common.{◌≡◌, ℕ, List, ◌++◌, ◌-◌}
-use Rattle.postcard_dyn_json.specs.Lines.{AreLines}
-use Rattle.postcard_dyn_json.proofs.place.from_line.Given as goal
-
-abbrev pub invariant-loop : goal.invariant-loop
-invariant-loop l = (lines : List ℕ) (rest : List ℕ) → AreLines (l.fn.line - 1) lines → l.fn.text ≡ lines ++ rest → (more : List ℕ) × AreLines (l.line - l.counter) more × (l.rest ≡ more ++ rest)

@@ -1,8 +1,0 @@
-use Rattle.serde_json.specs.View.{view}
-use Rattle.postcard_dyn_json.proofs.LengthErrors.{missing_error}
-use Rattle.postcard_dyn_json.proofs.read.length_error.Goals as goal
-
-pub returns-in-Some-missing : goal.returns-in-Some-missing
-returns-in-Some-missing c =
-    let told = c.in-Some-missing.ensures.some in
-    missing_error c.args.parts.now.items (view c.args.json.now) c.in-Some-missing.name.now c.here-in-Some-missing.result c.at_name.result c.here-in-Some-missing.ensures c.at_name.ensures.place told.0 told.1

@@ -1,8 +1,0 @@
--- The number so far and the digits that are left spell the number of all of them.
-use Rattle.std.proofs.Common.{◌≡◌, drop}
-use Rattle.std.specs.Str.Parse.{digits_value, digits_value_after}
-use Rattle.postcard_dyn_schema.specs.Literals.{without_underscores}
-use Rattle.postcard_dyn_schema.proofs.literal.digits_of.Given as goal
-
-abbrev pub invariant-loop-byte : goal.invariant-loop-byte
-invariant-loop-byte l = digits_value_after l.radix l.number (without_underscores (drop l.byte-index l.digits)) ≡ digits_value l.radix (without_underscores l.digits)

@@ -1,9 +1,0 @@
-use Rattle.std.proofs.Common.{◌≡◌, get_or}
-use Rattle.postcard_dyn_text.proofs.Choices.{not_called_more}
-use Rattle.postcard_dyn_text.proofs.read.index_of.Goals as goal
-
-pub loop-i-preserved : goal.loop-i-preserved
-loop-i-preserved c =
-    let whole = c.deref-variant-items.ensures.value in
-    let here : c.variant-item.result ≡ get_or c.args.variants.now.items c.loop-i.i c.variant-item.result = rw whole at c.variant-item.is in
-    not_called_more c.args.name.now c.args.variants.now.items c.loop-i.i c.variant-item.result (rw whole at c.loop-i-test.true) c.loop-i.invariant here (c.is_called.ensures.other c.if-is_called.false)

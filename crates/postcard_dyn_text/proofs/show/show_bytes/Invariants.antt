@@ -1,9 +1,0 @@
--- The digits of the bytes so far are written.
-use Rattle.std.proofs.Common.{map, take, Ok}
-use Rattle.std.specs.Fmt.{WritesOnOk}
-use Rattle.postcard_wire.specs.Tree.{Byte, trees}
-use Rattle.postcard_dyn_text.specs.Shown.{hexadecimal}
-use Rattle.postcard_dyn_text.proofs.show.show_bytes.Given as goal
-
-abbrev pub invariant-loop-byte : goal.invariant-loop-byte
-invariant-loop-byte g l = WritesOnOk g.W.Write.write_str_gives l.initial.f (Ok tt) (hexadecimal (trees (map Byte (take l.byte-index l.byte-items)))) l.f

@@ -1,9 +1,0 @@
--- The bytes so far stand for those of the file.
-use Rattle.std.proofs.Common.{◌≡◌, ℕ, ◌<◌, ◌||◌, ltb, leb, length}
-use Rattle.std.specs.Prelude.{slice_index}
-use Rattle.postcard_impl.specs.Plain.{plain_byte}
-use Rattle.postcard_impl.proofs.plain.Given as goal
-
-abbrev pub invariant-loop-at : goal.invariant-loop-at
-invariant-loop-at l = (length l.plain.items ≡ l.at)
-    × ((i : ℕ) → i < l.at → slice_index l.plain.items i ≡ plain_byte (ltb i l.start || leb l.end i) (slice_index l.bytes i))

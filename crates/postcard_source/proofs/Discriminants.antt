@@ -1,0 +1,36 @@
+-- Whether a token is of a discriminant, by a search back from it.
+use Rattle.std.proofs.Common.{◌≡◌, ℕ, ◌+◌, ◌<◌, ◌≤◌, false, List, Decides, sym, subst, true≢false, arith, ◌⊎◌, inl, inr}
+use Rattle.std.specs.Prelude.{codes}
+use Rattle.postcard_source.specs.declared.token.Token.{Token}
+use Rattle.postcard_source.specs.Words.{EndsDiscriminant, IsDiscriminant, IsSign}
+
+first_or_later : (a b : ℕ) → a ≤ b → (b ≡ a) ⊎ (a < b)
+first_or_later a b h = grind (arith, h)
+
+before_or_after : (a b : ℕ) → (a ≤ b) ⊎ (b < a)
+before_or_after a b = grind (arith)
+
+-- What holds at an index before others holds from it on.
+pub from_more : (P : ℕ → Type 0) (first index last : ℕ) → first + 1 ≡ index → P first → ((k : ℕ) → index ≤ k → k ≤ last → P k) → (k : ℕ) → first ≤ k → k ≤ last → P k
+from_more P first index last next here later k low high = elim (first_or_later first k low) as (λ _. P k) [
+  | inl same ↦ subst P (sym same) here
+  | inr after ↦ later k (omega arith) high
+]
+
+-- No discriminant that ends at an index goes on behind it if none begins there.
+pub none_goes_on : (tokens : List Token) (first index last : ℕ) → first + 1 ≡ index → first ≤ last → EndsDiscriminant tokens first
+    → ((k : ℕ) → index ≤ k → k ≤ last → IsSign 1 (codes "=") tokens k → ⊥) → Decides false (IsDiscriminant tokens last)
+none_goes_on tokens first index last next within ends none = (
+  λ e. absurd (true≢false (sym e)),
+  λ (j, low, begins, goes_on). absurd (elim (before_or_after j first) as (λ _. ⊥) [
+    | inl before ↦ goes_on first before within ends
+    | inr after ↦ none j (omega arith) low begins
+  ]),
+)
+
+-- None begins at any index.
+pub none_begins : (tokens : List Token) (first last : ℕ) → first ≡ 0 → ((k : ℕ) → first ≤ k → k ≤ last → IsSign 1 (codes "=") tokens k → ⊥) → Decides false (IsDiscriminant tokens last)
+none_begins tokens first last start none = (
+  λ e. absurd (true≢false (sym e)),
+  λ (j, low, begins, goes_on). absurd (none j (omega arith) low begins),
+)

@@ -1,0 +1,59 @@
+-- What was read of a file, through the slices that were passed.
+use Rattle.std.proofs.Common.{◌≡◌, ℕ, true, not, List, sym, ap, subst, ◌∙◌, true≢false, inl, inr}
+use Rattle.postcard_schema_text.specs.declared.error.Problem.{Problem}
+use Rattle.postcard_schema.specs.declared.schema.Schema.{Schema}
+use Rattle.postcard_schema_text.specs.Fronts.{IsRefusal}
+use Rattle.postcard_schema_text.specs.Grammar.{IsExpression}
+use Rattle.postcard_source.specs.declared.token.Token.{Token}
+use Rattle.postcard_source.specs.declared.declaration.Declaration.{Declaration}
+use Rattle.postcard_source.specs.declared.error.FileProblem.{FileProblem}
+use Rattle.postcard_source.specs.declared.error.FileProblem.TheVariants.{Expression}
+use Rattle.postcard_source.specs.Printed.{is_limit, is_of_type}
+use Rattle.postcard_source.specs.Lexical.{IsRead}
+use Rattle.postcard_source.specs.Kept.{AreKept}
+use Rattle.postcard_source.specs.Items.{AreDeclarations}
+use Rattle.postcard_source.specs.Expands.{IsSpelledBy, HasProblem}
+use Rattle.postcard_source.specs.Files.{IsFileOf, IsExpressionOf, HasProblemOf}
+
+pub file_of : (file : List ℕ) (all lent kept shown : List Token) (known : List Declaration) → IsRead file all → lent ≡ all → AreKept lent kept → shown ≡ kept → AreDeclarations shown known → IsFileOf file kept known
+file_of file all lent kept shown known read is are_kept is_kept declared =
+    ((all, read, subst (λ ts. AreKept ts kept) is are_kept), subst (λ ts. AreDeclarations ts known) is_kept declared)
+
+pub expression_of : (file name text words : List ℕ) (kept shown : List Token) (known seen : List Declaration) → IsFileOf file kept known → shown ≡ kept → seen ≡ known
+    → IsSpelledBy shown seen name words → text ≡ words → IsExpressionOf file name text
+expression_of file name text words kept shown known seen read is_kept is_known spelled same =
+    let held = subst (λ ts. IsSpelledBy ts known name words) is_kept (subst (λ ds. IsSpelledBy shown ds name words) is_known spelled) in
+    (kept, known, read, subst (IsSpelledBy kept known name) (sym same) held)
+
+pub problem_of : (file name : List ℕ) (problem : FileProblem) (kept shown : List Token) (known seen : List Declaration) → IsFileOf file kept known → shown ≡ kept → seen ≡ known
+    → (is_of_type problem ≡ true → HasProblem shown seen name problem) → HasProblemOf file name problem
+problem_of file name problem kept shown known seen read is_kept is_known problems = λ is.
+    (kept, known, read, subst (λ ts. HasProblem ts known name problem) is_kept (subst (λ ds. HasProblem shown ds name problem) is_known (problems is)))
+
+-- What the declaration stands for is refused as an expression.
+pub problem_of_text : (file name text words : List ℕ) (p : Problem) (kept shown : List Token) (known seen : List Declaration) → IsFileOf file kept known → shown ≡ kept → seen ≡ known
+    → IsSpelledBy shown seen name words → text ≡ words → IsRefusal p ((other : Schema) × IsExpression other text) → HasProblemOf file name (Expression p)
+problem_of_text file name text words p kept shown known seen read is_kept is_known spelled same refusal = λ of_type.
+    let held = subst (λ ts. IsSpelledBy ts known name words) is_kept (subst (λ ds. IsSpelledBy shown ds name words) is_known spelled) in (
+      kept,
+      known,
+      read,
+      (
+        λ e. absurd (cc),
+        λ e. absurd (cc),
+        λ e. absurd (cc),
+        λ q e. inr (
+          text,
+          subst (IsSpelledBy kept known name) (sym same) held,
+          λ schema is. elim refusal as (λ _. ⊥) [
+            | inl memory ↦ true≢false (sym of_type ∙ ap (λ x. not (is_limit x)) memory)
+            | inr none ↦ none (schema, is)
+          ],
+        ),
+      ),
+    )
+
+-- The same problem of the same texts.
+pub problem_moved : (file seen name asked : List ℕ) (p q : FileProblem) → seen ≡ file → asked ≡ name → q ≡ p → HasProblemOf seen asked p → HasProblemOf file name q
+problem_moved file seen name asked p q is_file is_name is has =
+    subst (λ t. HasProblemOf t name q) is_file (subst (λ n. HasProblemOf seen n q) is_name (subst (HasProblemOf seen asked) (sym is) has))
