@@ -13,8 +13,8 @@ AreBytesOf Is [] bytes = bytes ≡ []
 AreBytesOf Is (part ∷ parts) bytes =
     (front : List ℕ) × (rest : List ℕ) × Is part front × AreBytesOf Is parts rest × (bytes ≡ front ++ rest)
 
--- Of parts with a byte between each two, the first that spells no bytes is wrong at index `n` of the
--- whole text, if `IsWrong` says at which index a part is wrong.
+-- The parts are written with a byte between each two. The first part that spells no bytes is wrong at index `n` of the whole text.
+-- `IsWrong` says at which index a part is wrong.
 abbrev pub IsWrongAt : (List ℕ → List ℕ → Type 0) → (List ℕ → ℕ → Type 0) → List (List ℕ) → ℕ → Type 0
 IsWrongAt Is IsWrong [] n = ⊥
 IsWrongAt Is IsWrong (part ∷ parts) n =

@@ -13,7 +13,6 @@ pub use Rattle.hex.specs.Hex.{encode_lower}
 pub use Rattle.std.specs.Io.KnownBytes.{Appends}
 pub use Rattle.std.specs.Prelude.{codes, map}
 pub use Rattle.postcard_wire.specs.Spelling.{canonical}
-pub use Rattle.postcard_cobs.specs.Groups.{Groups, NoZero}
 pub use Rattle.postcard_schema.specs.Paths.{plain_path}
 pub use Rattle.postcard_value_text.specs.Accepted.{HasDistinctNames}
 pub use Rattle.postcard_value_text.specs.Layout.{layout_of}

@@ -1,15 +1,14 @@
 //! The command `explain`: [`explain`].
 
-ghost use Rattle.std.specs.Prelude.{◌≡◌, ℕ, List, IfErr, IfNone, IfSome, OnOk, option_map};
-ghost use Rattle.pcard_calls.specs.{ExplainFails, Groups, Json, NoJson, NoZero, PrintsExplained};
-ghost use Rattle.pcard_calls.specs.{PrintsFrameRows, PrintsRowsOf, most_of, plain_trailer};
-ghost use Rattle.pcard_calls.specs.{trailer_after};
+ghost use Rattle.std.specs.Prelude.{◌≡◌, IfErr, OnOk, option_map};
+ghost use Rattle.pcard_calls.specs.{ExplainFails, Json, NoJson, PrintsExplained, PrintsFrameRows};
+ghost use Rattle.pcard_calls.specs.{PrintsRowsOf, most_of, plain_trailer, trailer_after};
 
 use pcard_bytes::Checksum;
 use pcard_explain::{ELEMENTS, Trailer, print_after_frame, print_codes, print_rows};
-use pcard_message::{Failure, Format, next};
+use pcard_message::{Failure, Format, data_of, next};
 use pcard_print::{Answer, Notation, PrintError, print_refusal};
-use postcard_cobs::{decode_in_place, frame_len};
+use postcard_cobs::frame_len;
 use postcard_explain::{Explanation, explain as explain_lines};
 use postcard_wire::Error;
 use std::alloc::Global;
@@ -53,8 +52,7 @@ pub fn explain<W: Write>(
 }
 
 /// Prints the rows of the first frame of some bytes: those of its code bytes, that of the bytes after
-/// it, and those of its data.
-/// Prints none if no zero ends it, or if it is no COBS frame.
+/// it, and those of its data. Prints none if no zero ends it, or if it is no COBS frame.
 fn print_frame<W: Write>(
     alloc: Global,
     format: &Format,
@@ -72,27 +70,12 @@ fn print_frame<W: Write>(
     }
     let frame = &bytes[..end];
     let mut room = Vec::new(alloc);
-    room.extend_from_slice(frame)?;
-    let Some(content) = unpack(frame, &mut room) else {
+    let Some(content) = data_of(frame, &mut room)? else {
         return Ok(());
     };
     print_codes(alloc, format.notation, frame, output)?;
     print_after_frame(alloc, format.notation, frame, &bytes[end + 1..], output)?;
     print_data(alloc, format, all, content, output)
-}
-
-/// Returns the data of a frame, of which `buffer` is a copy, in which it is decoded. Returns `None`
-/// if it is no COBS frame.
-fn unpack<'a>(frame: &[u8], buffer: &'a mut [u8]) -> Option<&'a [u8]>
-    requires copy { buffer.old ≡ frame.now }
-    requires no_zero { NoZero frame.now }
-    ensures some { IfSome result (λ content. Groups frame.now content.now) }
-    ensures none { IfNone result ((content : List ℕ) → Groups frame.now content → ⊥) }
-{
-    match decode_in_place(buffer) {
-        Ok(count) => Some(&buffer[..count]),
-        Err(_) => None,
-    }
 }
 
 /// Prints the rows of a message's data.

@@ -21,9 +21,11 @@ pub const CHUNK: usize = 16;
 /// The most reads.
 pub const READS: usize = 65_536;
 
-/// Reads frames of lists of bytes until the input ends, and prints a line for each: `ok` and the
-/// bytes as hexadecimal, `error` for a frame with no such list or if the allocation for its bytes
-/// fails, or `overfull` for a frame of more than 64 bytes, its zero included.
+/// Reads frames of lists of bytes until the input ends, and prints a line for each:
+///
+/// - `ok` and the bytes as hexadecimal;
+/// - `error` for a frame with no such list, or if the allocation for its bytes fails;
+/// - `overfull` for a frame of more than 64 bytes, its zero included.
 ///
 /// # Errors
 ///

@@ -14,8 +14,8 @@ use Rattle.pcard_explain.specs.declared.rows.Trailer.{Trailer as TrailerHere}
 
 -- ---- what is said
 
--- What a row says: the bytes are the checksum with this name, those after the value, the code byte of a group, after which the data has a
--- zero or not, the zero that ends a frame, or those after the frame.
+-- What a row says its bytes are: the checksum with this name; those after the value; the code byte of a group, and whether a zero of the
+-- data follows the group; the zero that ends a frame; those after the frame.
 pub data Note : Type 0 where
   checksum : List ℕ → Note
   after : Note

@@ -28,15 +28,34 @@ pub fn read_frame<'a>(
     ensures { IfOk result (λ answer. NoZero frame.now
         → IsFrameAnswer format.now frame.now (plain_answer answer)) }
 {
-    if let Some(content) = only_group(frame) {
-        return read_content(alloc, format, content);
-    }
-    room.clear();
-    room.extend_from_slice(frame)?;
-    match unpack(frame, room) {
+    match data_of(frame, room)? {
         Some(content) => read_content(alloc, format, content),
         None => Ok(refuse(alloc, Reason::NoCobs, frame)),
     }
+}
+
+/// Returns the data of a frame, or `None` if it is no COBS frame.
+///
+/// The data of a frame of several groups is put into `room`.
+///
+/// # Errors
+///
+/// Fails if an allocation fails.
+pub fn data_of<'a>(
+    frame: &'a [u8],
+    room: &'a mut Vec<u8>,
+) -> Result<Option<&'a [u8]>, AllocError>
+    ensures some { IfOk result (λ found. IfSome found (λ content.
+        NoZero frame.now → Groups frame.now content.now)) }
+    ensures none { IfOk result (λ found. IfNone found (NoZero frame.now
+        → (content : List ℕ) → Groups frame.now content → ⊥)) }
+{
+    if let Some(content) = only_group(frame) {
+        return Ok(Some(content));
+    }
+    room.clear();
+    room.extend_from_slice(frame)?;
+    Ok(unpack(frame, room))
 }
 
 /// Returns the data of a frame of one group, which lies behind its code byte as it is, or `None` if

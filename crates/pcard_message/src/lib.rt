@@ -17,5 +17,5 @@ pub use encoding::encode;
 pub use failure::Failure;
 pub use first::next;
 pub use format::{Format, checksum_of, format_of, schema_of};
-pub use frame::read_frame;
+pub use frame::{data_of, read_frame};
 pub use stream::{print_frames, print_frames_of};

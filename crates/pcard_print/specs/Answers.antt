@@ -8,8 +8,8 @@ use Rattle.pcard_print.specs.declared.answer.Answer.TheVariants as answers
 use Rattle.pcard_print.specs.declared.refusal.Reason.{Reason}
 use Rattle.pcard_print.specs.declared.refusal.Refusal.{Refusal}
 
--- Why bytes have no value: the offset of the part that can't be read, or 0 for a frame, the reason, the text of the part's path, and the bytes
--- that are shown, if it is a frame.
+-- Why bytes have no value. `offset` is that of the part that can't be read, or 0 for a frame. `path` is the text of that part's path. The
+-- bytes of a frame are shown.
 pub record Why : Type 0 where
   pub offset : ℕ
   pub reason : Reason

@@ -1,9 +1,0 @@
-use Rattle.pcard_message.proofs.ReadingLemmas.{decoded, undecoded}
-use Rattle.pcard_calls.proofs.explain.unpack.Goals as goal
-
-pub returns-in-Ok-clause-some : goal.returns-in-Ok-clause-some
-returns-in-Ok-clause-some c =
-    decoded c.args.frame.now c.decode_in_place.new.buf c.in-Ok.count c.requires.no_zero (rw c.requires.copy at c.in-Ok.ensures.gives)
-
-pub returns-in-Err-clause-none : goal.returns-in-Err-clause-none
-returns-in-Err-clause-none c = undecoded c.args.frame.now c.requires.no_zero (rw c.requires.copy at c.in-Err.ensures.no_groups)
