@@ -1,4 +1,4 @@
-/* The exports of crates/postcard_c_source_tests, for the tests of tools/c-source. */
+/* The exports of crates/test_c_source, for the tests of tools/c-source. */
 #ifndef POSTCARD_CONSTRUCTS_H
 #define POSTCARD_CONSTRUCTS_H
 #include <stdbool.h>

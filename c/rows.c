@@ -1,4 +1,4 @@
-/* The rows of crates/postcard_rows/stdin, which say how a row is written, by the calls of postcard.h: those of numbers,
+/* The rows of crates/test_vectors/stdin, which say how a row is written, by the calls of postcard.h: those of numbers,
  * floats but for a NaN, booleans, characters and texts without escapes. It reads them from its standard input and prints one line, or each row
  * that is wrong. */
 #include <stdio.h>

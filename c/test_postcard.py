@@ -6,7 +6,7 @@ import zlib
 
 import postcard
 
-ROWS = os.path.join(os.path.dirname(os.path.abspath(__file__)), "../crates/postcard_rows/stdin")
+ROWS = os.path.join(os.path.dirname(os.path.abspath(__file__)), "../crates/test_vectors/stdin")
 # The type expressions of the types of the rows that have one by name.
 LEAVES = {it: it for it in "bool u8 u16 u32 u64 u128 i8 i16 i32 i64 i128 char".split()}
 LEAVES |= {"usize": "u64", "isize": "i64", "&str": "str", "String": "str"}

@@ -1,7 +1,7 @@
 """agrees.py [PCARD]: requires that the types of declarations are those that `@FILE:NAME` of pcard has for them.
 
 The rows of crates/test_source/src/declarations.rt say what `@FILE:NAME` accepts, as what type, and what it refuses where. With the
-program PCARD, each type that a file of c/types or of crates/pcard_sessions/data declares is compared too: both must accept it or refuse
+program PCARD, each type that a file of c/types or of crates/test_pcard/data declares is compared too: both must accept it or refuse
 it, and print the same for the same bytes by the name as by the expression.
 """
 import ast
@@ -218,7 +218,7 @@ def main():
     wrong, taken = check_rows(), 0
     if sys.argv[1:]:
         chance = random.Random(1)
-        files = glob.glob(f"{HERE}/*.rs") + glob.glob(f"{ROOT}/crates/pcard_sessions/data/*.rs")
+        files = glob.glob(f"{HERE}/*.rs") + glob.glob(f"{ROOT}/crates/test_pcard/data/*.rs")
         for file in sorted(files):
             count, found = check_file(sys.argv[1], file, chance)
             taken, wrong = taken + count, wrong + found

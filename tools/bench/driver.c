@@ -1,4 +1,4 @@
-/* Measures the exports of crates/postcard_bench beside plain C: `speed` prints the time of an item or of a byte, `beside` and `values`
+/* Measures the exports of crates/bench_exports beside plain C: `speed` prints the time of an item or of a byte, `beside` and `values`
  * the same as rows of two tables of docs/SPEED.md, `growth` the time of a byte of longer and longer messages as such rows, `plot` the
  * same as an image, and `memory` the memory that is requested. */
 #include "exports.h"

@@ -1,4 +1,4 @@
-/* The exports of crates/postcard_bench, whose comments say what each does. */
+/* The exports of crates/bench_exports, whose comments say what each does. */
 #include <stddef.h>
 #include <stdint.h>
 

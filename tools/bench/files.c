@@ -1,4 +1,4 @@
-/* Does in plain C what the program of crates/postcard_bench_files does, with the same words and the same calls of the system: a
+/* Does in plain C what the program of crates/bench_files does, with the same words and the same calls of the system: a
  * record is written with one call, and read through a buffer of 8,192 bytes; a list of bytes has no buffer. */
 #include "plain.h"
 #include <fcntl.h>

@@ -1,4 +1,4 @@
-/* What a program in C without a library does for the rows of the driver: the work of the exports of crates/postcard_bench, to the
+/* What a program in C without a library does for the rows of the driver: the work of the exports of crates/bench_exports, to the
  * byte. Each returns what the export returns, and UINT64_MAX if there is too little room or a message is bad. */
 #include <stddef.h>
 #include <stdint.h>

@@ -1,6 +1,0 @@
-use Rattle.std.proofs.Common.{◌≡◌, ◌++◌, take}
-use Rattle.postcard_layers_tests.proofs.reading_flavors.OneByteReader.read_full.Given as goal
-
--- The bytes at the call are the first `at` bytes of `buf`, and then those left.
-abbrev pub invariant-loop-at : goal.invariant-loop-at
-invariant-loop-at l = l.fn.self.bytes.now ≡ take l.at l.buf ++ l.self.bytes.now

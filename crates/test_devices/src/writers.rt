@@ -1,0 +1,55 @@
+//! Tests of writing values to writers that are short of room or fail.
+
+ghost use Rattle.std.specs.Prelude.{◌≡◌, IfOk};
+ghost use Rattle.postcard_wire.specs.Spelling.{canonical};
+
+use crate::asserts::{same, same_bytes};
+use postcard::{Error, Serialize, to_io};
+use test_support::devices::writers::{Bounded, FailingWriter};
+use std::process::Abort;
+
+/// Writes a value to a writer, and returns the writer. The contract says which bytes it then holds.
+pub fn sent<T: Serialize, const N: usize>(value: &T) -> postcard::Result<Bounded<N>>
+    ensures { IfOk result (λ writer. writer.held.items ≡ canonical (T.shape.tree value.now)) }
+{
+    to_io(value, Bounded::new())
+}
+
+#[test]
+fn short_of_room(rt: HostRuntime) {
+    let writer = sent::<_, 4>(&"Hi!").expect(&rt, "the text has room");
+    same_bytes(&rt, writer.held.as_slice(), &[0x03, 0x48, 0x69, 0x21]);
+    let refused = sent::<_, 3>(&"Hi!").err();
+    same(&rt, refused, Some(Error::SerializeBufferFull));
+}
+
+/// Writes a tuple of four pieces to a writer of which one write, or the flush, fails, if the tuple
+/// needs it.
+///
+/// No clause says that `to_io` flushes its writer: only this and `is_written_or_refused` of
+/// `test_refusals` would catch one that doesn't.
+fn write_through(rt: &impl Abort, fails_at: usize, flush_fails: bool) {
+    let mut writer = FailingWriter {
+        inner: Bounded::<9>::new(),
+        writes: 0,
+        fails_at,
+        flush_fails,
+        flushed: false,
+    };
+    let refused = to_io(&(1u8, 10u32, "Hello!"), &mut writer).err();
+    let fails = fails_at < 4 || flush_fails;
+    same(rt, refused, fails.then_some(Error::SerializeBufferFull));
+    same(rt, writer.flushed, !fails);
+    let want = [0x01, 0x0A, 0x06, 0x48, 0x65, 0x6C, 0x6C, 0x6F, 0x21];
+    let begun = want.starts_with(writer.inner.held.as_slice());
+    same(rt, begun, true);
+    same(rt, writer.writes, fails_at.saturating_add(1).min(4));
+}
+
+#[test]
+fn each_call_fails_in_turn(rt: HostRuntime) {
+    for fails_at in 0..5 {
+        write_through(&rt, fails_at, false);
+    }
+    write_through(&rt, 4, true);
+}
