@@ -41,10 +41,7 @@ pub fn read_frame<'a>(
 /// # Errors
 ///
 /// Fails if an allocation fails.
-pub fn data_of<'a>(
-    frame: &'a [u8],
-    room: &'a mut Vec<u8>,
-) -> Result<Option<&'a [u8]>, AllocError>
+pub fn data_of<'a>(frame: &'a [u8], room: &'a mut Vec<u8>) -> Result<Option<&'a [u8]>, AllocError>
     ensures some { IfOk result (λ found. IfSome found (λ content.
         NoZero frame.now → Groups frame.now content.now)) }
     ensures none { IfOk result (λ found. IfNone found (NoZero frame.now

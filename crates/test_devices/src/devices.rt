@@ -2,10 +2,10 @@
 
 use crate::asserts::{same, same_bytes};
 use postcard::de_flavors::Reader;
-use test_support::devices::readers::{FailingReader, Pieces};
-use test_support::devices::writers::{Bounded, FailingWriter};
 use std::io::{Read, Write};
 use std::process::Abort;
+use test_support::devices::readers::{FailingReader, Pieces};
+use test_support::devices::writers::{Bounded, FailingWriter};
 
 /// Asserts the number of bytes that the next read of at most four bytes reads.
 fn assert_reads(rt: &impl Abort, reader: &mut Pieces<'_>, count: usize) {

@@ -6,11 +6,11 @@ use crate::asserts::{assert_read, assert_scratch, same, same_bytes};
 use postcard::de_flavors::io::io::IOReader;
 use postcard::de_flavors::{Flavor, Plain, Reader};
 use postcard::{Error, to_io};
-use test_support::devices::readers::{InterruptedReader, Pieces};
-use test_support::devices::writers::{Bounded, InterruptedWriter};
 use std::io;
 use std::io::{ErrorKind, Read, Write};
 use std::process::Abort;
+use test_support::devices::readers::{InterruptedReader, Pieces};
+use test_support::devices::writers::{Bounded, InterruptedWriter};
 
 /// Returns a reader of these bytes, one with each read, whose first call is interrupted.
 fn interrupted(bytes: &[u8]) -> InterruptedReader<Pieces<'_>> {

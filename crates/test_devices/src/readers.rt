@@ -6,9 +6,9 @@ use crate::asserts::{assert_read, assert_refused, assert_scratch, same, same_byt
 use postcard::de_flavors::io::io::IOReader;
 use postcard::de_flavors::{Flavor, Plain, Reader};
 use postcard::{Error, from_io};
-use test_support::devices::readers::{FailingReader, Pieces};
 use std::alloc::AllocGlobal;
 use std::process::Abort;
+use test_support::devices::readers::{FailingReader, Pieces};
 
 /// The texts "ab" and "c".
 const TEXTS: [u8; 5] = [0x02, 0x61, 0x62, 0x01, 0x63];

@@ -5,8 +5,8 @@ ghost use Rattle.postcard_wire.specs.Spelling.{canonical};
 
 use crate::asserts::{same, same_bytes};
 use postcard::{Error, Serialize, to_io};
-use test_support::devices::writers::{Bounded, FailingWriter};
 use std::process::Abort;
+use test_support::devices::writers::{Bounded, FailingWriter};
 
 /// Writes a value to a writer, and returns the writer. The contract says which bytes it then holds.
 pub fn sent<T: Serialize, const N: usize>(value: &T) -> postcard::Result<Bounded<N>>

@@ -6,9 +6,9 @@ use postcard::{
     DeserializeOwned, Error, Owned, Serialize, from_bytes_cobs, take_from_bytes_cobs,
     to_allocvec_cobs, to_slice_cobs,
 };
-use test_support::types::RefStruct;
 use std::alloc::AllocGlobal;
 use std::process::Abort;
+use test_support::types::RefStruct;
 
 /// Bytes, each beside the bytes after the frame at their front, which holds the byte 7.
 const BYTES: [(&[u8], &[u8]); 4] = [

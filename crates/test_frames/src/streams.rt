@@ -7,10 +7,10 @@ use crate::same::{same, same_at};
 use postcard_accumulator::{Answer, CobsAccumulator, ReadEnd, read_frames};
 use postcard_de::DeserializeOwned;
 use postcard_de_flavors::{Plain, Reader};
-use test_support::devices::readers::FailingReader;
 use std::alloc::AllocGlobal;
 use std::fmt::Debug;
 use std::process::Abort;
+use test_support::devices::readers::FailingReader;
 
 /// A stream of two frames, of which the first has no room in four bytes and the second has.
 const STREAM: [u8; 9] = [5, 1, 1, 1, 1, 0, 2, 7, 0];

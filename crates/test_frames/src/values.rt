@@ -7,9 +7,9 @@ use postcard::{
     Error, Result, Serialize, fill_slice_cobs, to_allocvec_cobs, to_allocvec_cobs_after,
     to_slice_cobs, to_stdvec_cobs, to_vec_cobs,
 };
-use test_support::types::RefStruct;
 use std::alloc::AllocGlobal;
 use std::process::Abort;
+use test_support::types::RefStruct;
 
 /// Asserts that a frame was written into a buffer of `room` bytes with this outcome: all of it if it
 /// has room, and only in these bytes.

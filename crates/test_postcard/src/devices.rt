@@ -2,8 +2,8 @@
 
 use crate::asserts::same;
 use arrayvec::ArrayVec;
-use test_support::devices::writers::InterruptedWriter;
 use std::io::Write;
+use test_support::devices::writers::InterruptedWriter;
 
 #[test]
 fn a_flush_between_interrupted_writes(rt: HostRuntime) {

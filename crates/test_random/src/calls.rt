@@ -9,10 +9,10 @@ use postcard::{
     DeserializeOwned, Owned, Serialize, from_bytes, from_bytes_cobs, from_io, take_from_bytes,
     take_from_bytes_cobs, to_allocvec, to_allocvec_cobs, to_extend, to_io, to_slice, to_slice_cobs,
 };
-use test_support::devices::readers::Pieces;
 use std::alloc::{AllocError, Global};
 use std::fmt::Debug;
 use std::process::Abort;
+use test_support::devices::readers::Pieces;
 
 /// The bytes after a value, which no call reads as a part of it.
 const BEHIND: [u8; 4] = [0x00, 0xFF, 0x80, 0x01];

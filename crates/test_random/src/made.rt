@@ -2,10 +2,10 @@
 
 use crate::choices::Choices;
 use arrayvec::{ArrayString, ArrayVec};
-use test_support::types::{DataEnum, DualTupleStruct, EnumStruct, WideU8S};
 use std::collections::BTreeMap;
 use std::rc::Rc;
 use std::time::Duration;
+use test_support::types::{DataEnum, DualTupleStruct, EnumStruct, WideU8S};
 
 /// A type whose values are made of parts, in the order of the wire format.
 pub(crate) trait Made: Drop + Sized {

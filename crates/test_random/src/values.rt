@@ -6,13 +6,13 @@ use crate::random::Random;
 use crate::streams::arrive;
 use arrayvec::{ArrayString, ArrayVec};
 use postcard::{DeserializeOwned, Serialize};
-use test_support::types::{DataEnum, DualTupleStruct, WideU8S};
 use std::alloc::Global;
 use std::collections::BTreeMap;
 use std::fmt::Debug;
 use std::process::Abort;
 use std::rc::Rc;
 use std::time::Duration;
+use test_support::types::{DataEnum, DualTupleStruct, WideU8S};
 
 /// Asserts that five thousand values of a type are read back, and that a thousand arrive in
 /// streams.

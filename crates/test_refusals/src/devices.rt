@@ -3,11 +3,11 @@
 
 use postcard::de_flavors::{Plain, Reader};
 use postcard::{Deserialize, DeserializeOwned, Error, Owned, Serialize, from_io, to_io};
+use std::alloc::{AllocError, AllocGlobal, Global};
+use std::process::Abort;
 use test_support::devices::readers::{FailingReader, InterruptedReader, Pieces};
 use test_support::devices::writers::{FailingWriter, InterruptedWriter};
 use test_support::types::{DataEnum, RefStruct};
-use std::alloc::{AllocError, AllocGlobal, Global};
-use std::process::Abort;
 
 const END: Error = Error::DeserializeUnexpectedEnd;
 

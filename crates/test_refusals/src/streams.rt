@@ -3,9 +3,9 @@
 use postcard::accumulator::CobsAccumulator;
 use postcard::de_flavors::Plain;
 use postcard::{Answer, ReadEnd, read_frames};
-use test_support::devices::readers::{FailingReader, InterruptedReader, Pieces};
 use std::alloc::{AllocError, AllocGlobal, Global};
 use std::process::Abort;
+use test_support::devices::readers::{FailingReader, InterruptedReader, Pieces};
 
 /// A stream of two frames, of which the first has no room in four bytes and the second has.
 const STREAM: [u8; 9] = [5, 1, 1, 1, 1, 0, 2, 7, 0];

@@ -2,13 +2,13 @@
 
 use crate::damage::{changes, frame_changes, frames_are_kept, withstands, withstands_lent};
 use arrayvec::{ArrayString, ArrayVec};
+use std::alloc::AllocGlobal;
+use std::collections::BTreeMap;
+use std::process::Abort;
 use test_support::types::{
     BasicEnum, BasicU8S, DataEnum, DualTupleStruct, EnumStruct, NewTypeStruct, RefStruct,
     TupleStruct, WideU8S,
 };
-use std::alloc::AllocGlobal;
-use std::collections::BTreeMap;
-use std::process::Abort;
 
 /// Does the same as `withstands` for a value that borrows from its bytes, which outlive it here.
 macro_rules! withstands_lent {

@@ -3,11 +3,11 @@
 use super::numbers;
 use crate::checks::{Outcome, borrowed, owned_with};
 use crate::row::Row;
+use std::alloc::Global;
 use test_support::types::{
     BasicEnum, BasicU8S, DataEnum, DualTupleStruct, Endpoint, EnumStruct, NewTypeStruct, RefStruct,
     TupleStruct, WideU8S,
 };
-use std::alloc::Global;
 
 /// Checks a row of a type of this group or of those after it.
 pub fn with_scratch<'a>(alloc: Global, row: &'a Row<'_>, scratch: &'a mut [u8]) -> Outcome {
