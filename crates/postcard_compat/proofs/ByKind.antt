@@ -1,5 +1,5 @@
 -- Schemas by their kind, and parts one after the other.
-use Rattle.std.proofs.Common.{◌≡◌, ℕ, zero, suc, ◌+◌, ◌<◌, ◌≤◌, List, [], ◌∷◌, length, get_or, drop, Vec, Box, sym, ap, subst, ◌∙◌, arith}
+use Rattle.std.proofs.Common.{◌≡◌, ℕ, zero, suc, ◌+◌, ◌<◌, ◌≤◌, List, [], ◌∷◌, length, get_or, drop, Vec, Box, refl, sym, ap, subst, ◌∙◌, arith}
 use Rattle.std.proofs.Math.Seq.{drop-cons}
 use Rattle.std.proofs.Math.ListN.{drop_of_length-le}
 use Rattle.std.specs.declared.alloc.Global.{Global}
@@ -7,11 +7,11 @@ use Rattle.postcard_schema.specs.declared.leaf.Leaf.{Leaf}
 use Rattle.postcard_schema.specs.declared.schema.Named.{Named}
 use Rattle.postcard_schema.specs.declared.schema.Schema.{Schema}
 use Rattle.postcard_schema.specs.declared.schema.Schema.TheVariants as schemas
-use Rattle.postcard_schema.specs.Meaning.{MessageType, leaf, option, seq, array, group, choice, no_types, then_type, entry_of, contents, reads, reads_all, reads_at, type_of, types_of}
+use Rattle.postcard_schema.specs.Meaning.{MessageType, MessageTypes, leaf, option, seq, array, group, choice, no_types, then_type, entry_of, contents, reads, reads_all, reads_at, type_of, types_of}
 use Rattle.postcard_schema.specs.Lemmas.{type_of_leaf, type_of_option, type_of_seq, type_of_map, type_of_array, type_of_tuple, type_of_struct, type_of_enum}
 use Rattle.postcard_compat.specs.Said.{said, said_all, said_at}
-use Rattle.postcard_compat.specs.Serving.{Serves, AllServe, VariantsServe}
-use Rattle.postcard_compat.proofs.Served.{option_serves, seq_serves, array_serves, group_serves, choice_serves, end_serves, then_serves, none_serve, variant_serves}
+use Rattle.postcard_compat.specs.Serving.{Serves, AllServe, SameMessages, VariantsServe}
+use Rattle.postcard_compat.proofs.Served.{through, option_serves, seq_serves, array_serves, group_serves, choice_serves, choice_serves_option, end_serves, then_serves, none_serve, variant_serves}
 
 by : (n o x y : MessageType) → n ≡ x → o ≡ y → Serves x y → Serves n o
 by n o x y en eo h = subst (λ z. Serves n z) (sym eo) (subst (λ z. Serves z y) (sym en) h)
@@ -27,10 +27,6 @@ module _ (s n d e : Schema) (a b : Box Schema Global) (old_held : d ≡ a.value)
   within : Serves (type_of b.value) (type_of a.value)
   within = held d e a b old_held new_held h
 
-  pub of_option : s ≡ schemas.Option a → n ≡ schemas.Option b → Serves (type_of n) (type_of s)
-  of_option is new_is = by (type_of n) (type_of s) (option (type_of b.value)) (option (type_of a.value)) (ap type_of new_is ∙ type_of_option b) (ap type_of is ∙ type_of_option a)
-      (option_serves (reads (type_of b.value)) (said (type_of b.value)) (reads (type_of a.value)) (said (type_of a.value)) within)
-
   pub of_seq : s ≡ schemas.Seq a → n ≡ schemas.Seq b → Serves (type_of n) (type_of s)
   of_seq is new_is = by (type_of n) (type_of s) (seq (type_of b.value)) (seq (type_of a.value)) (ap type_of new_is ∙ type_of_seq b) (ap type_of is ∙ type_of_seq a)
       (seq_serves (reads (type_of b.value)) (said (type_of b.value)) (reads (type_of a.value)) (said (type_of a.value)) within)
@@ -39,6 +35,10 @@ module _ (s n d e : Schema) (a b : Box Schema Global) (old_held : d ≡ a.value)
   of_array j k same is new_is = by (type_of n) (type_of s) (array k (type_of b.value)) (array k (type_of a.value))
       (ap type_of new_is ∙ type_of_array b k) (ap type_of is ∙ (type_of_array a j ∙ ap (λ m. array m (type_of a.value)) same))
       (array_serves (reads (type_of b.value)) (said (type_of b.value)) (reads (type_of a.value)) (said (type_of a.value)) within k)
+
+pub of_option : (s n d e : Schema) (a : Box Schema Global) → d ≡ a.value → ((x : MessageType) → Serves (type_of e) x → Serves (type_of n) (option x))
+    → Serves (type_of e) (type_of d) → s ≡ schemas.Option a → Serves (type_of n) (type_of s)
+of_option s n d e a held stands h is = rw (is, type_of_option a, ← held) (stands (type_of d) h)
 
 entries_serve : (k v x y : MessageType) → Serves k x → Serves v y → Serves (entry_of k v) (entry_of x y)
 entries_serve k v x y hk hv =
@@ -63,16 +63,19 @@ all_serve [] (o ∷ os) e h = absurd (omega (arith, e))
 all_serve (n ∷ ns) [] e h = absurd (omega (arith, e))
 all_serve (n ∷ ns) (o ∷ os) e h = then_serves (type_of n) (type_of o) (types_of ns) (types_of os) (h 0) (all_serve ns os (omega (arith, e)) (λ i. h (suc i)))
 
-of_group : (s n : Schema) (os ns : List Schema) → type_of s ≡ group (types_of os) → type_of n ≡ group (types_of ns) → length os ≡ length ns
+of_group : (s n : Schema) (os ns : List Schema) → type_of s ≡ group (types_of os) → SameMessages (type_of n) (group (types_of ns)) → length os ≡ length ns
     → VariantsServe (types_of ns) (types_of os) → Serves (type_of n) (type_of s)
-of_group s n os ns is new_is many h = by (type_of n) (type_of s) (group (types_of ns)) (group (types_of os)) new_is is
-    (group_serves (reads_all (types_of ns)) (said_all (types_of ns)) (reads_all (types_of os)) (said_all (types_of os)) (all_serve ns os many h))
+of_group s n os ns is new many h =
+    let old = group (types_of os) in
+    let row = group (types_of ns) in
+    let parts : Serves row old = group_serves (reads_all (types_of ns)) (said_all (types_of ns)) (reads_all (types_of os)) (said_all (types_of os)) (all_serve ns os many h) in
+    subst (λ z. Serves (type_of n) z) (sym is) (through (reads (type_of n)) (said (type_of n)) (reads row) (said row) (reads old) (said old) new.serves parts)
 
-pub of_tuple : (s n : Schema) (v : Vec Schema Global) (ns : List Schema) → s ≡ schemas.Tuple v → type_of n ≡ group (types_of ns) → length v.items ≡ length ns
-    → VariantsServe (types_of ns) (types_of v.items) → Serves (type_of n) (type_of s)
+pub of_tuple : (s n : Schema) (v : Vec Schema Global) (ns : List Schema) → s ≡ schemas.Tuple v → SameMessages (type_of n) (group (types_of ns))
+    → length v.items ≡ length ns → VariantsServe (types_of ns) (types_of v.items) → Serves (type_of n) (type_of s)
 of_tuple s n v ns is = of_group s n v.items ns (ap type_of is ∙ type_of_tuple v)
 
-pub of_struct : (s n : Schema) (v : Vec (Named Schema) Global) (ns : List Schema) → s ≡ schemas.Struct v → type_of n ≡ group (types_of ns)
+pub of_struct : (s n : Schema) (v : Vec (Named Schema) Global) (ns : List Schema) → s ≡ schemas.Struct v → SameMessages (type_of n) (group (types_of ns))
     → length (contents v.items) ≡ length ns → VariantsServe (types_of ns) (types_of (contents v.items)) → Serves (type_of n) (type_of s)
 of_struct s n v ns is = of_group s n (contents v.items) ns (ap type_of is ∙ type_of_struct v)
 
@@ -84,6 +87,31 @@ of_enum s n v w is new_is h =
     by (type_of n) (type_of s) (choice ns) (choice os) (ap type_of new_is ∙ type_of_enum w) (ap type_of is ∙ type_of_enum v)
     (choice_serves (reads_at ns) (said_at ns) (reads_at os) (said_at os) h)
 
+-- ---- An option that is an enum
+
+pub option_as_option : (n : Schema) (d : Schema) (b : Box Schema Global) → n ≡ schemas.Option b → d ≡ b.value
+    → (x : MessageType) → Serves (type_of d) x → Serves (type_of n) (option x)
+option_as_option n d b is held x h =
+    rw (is, type_of_option b, ← held) (option_serves (reads (type_of d)) (said (type_of d)) (reads x) (said x) h)
+
+two_variants : (ns : List (Named Schema)) (a b : Named Schema) → 1 < length ns → a ≡ get_or ns 0 a → b ≡ get_or ns 1 b
+    → (more : MessageTypes) × (types_of (contents ns) ≡ then_type (type_of a.content) (then_type (type_of b.content) more))
+two_variants [] a b low ea eb = absurd (omega (arith, low))
+two_variants (x ∷ []) a b low ea eb = absurd (omega (arith, low))
+two_variants (x ∷ y ∷ ns) a b low ea eb = (types_of (contents ns), rw (ea, eb) refl)
+
+no_parts : (xs : List Schema) → length xs ≡ 0 → types_of xs ≡ no_types
+no_parts [] e = refl
+no_parts (x ∷ xs) e = absurd (omega (arith, e))
+
+pub enum_as_option : (n : Schema) (v : Vec (Named Schema) Global) (a b : Named Schema) (ns : List Schema) → n ≡ schemas.Enum v → 1 < length v.items
+    → a ≡ get_or v.items 0 a → b ≡ get_or v.items 1 b → SameMessages (type_of a.content) (group (types_of ns)) → length ns ≡ 0
+    → (x : MessageType) → Serves (type_of b.content) x → Serves (type_of n) (option x)
+enum_as_option n v a b ns is low ea eb h none x k =
+    let (more, e) = two_variants v.items a b low ea eb in
+    let empty : Serves (type_of a.content) (group no_types) = subst (λ z. Serves (type_of a.content) (group z)) (no_parts ns none) h.serves in
+    rw (is, type_of_enum v, e) (choice_serves_option (type_of a.content) (type_of b.content) x more empty k)
+
 -- ---- Parts
 
 pub content_get : (ns : List (Named Schema)) (i : ℕ) (n : Named Schema) → i < length ns → n ≡ get_or ns i n → n.content ≡ get_or (contents ns) i n.content
@@ -91,7 +119,7 @@ content_get [] i n low e = absurd (omega (arith, low))
 content_get (x ∷ xs) zero n low e = ap (λ z. z.content) e
 content_get (x ∷ xs) (suc i) n low e = content_get xs i n (omega (arith, low)) e
 
-cut : (xs : List Schema) (k : ℕ) (x : Schema) → k < length xs → x ≡ get_or xs k x → drop k xs ≡ x ∷ drop (k + 1) xs
+pub cut : (xs : List Schema) (k : ℕ) (x : Schema) → k < length xs → x ≡ get_or xs k x → drop k xs ≡ x ∷ drop (k + 1) xs
 cut xs k x h e =
     let next : suc k ≡ k + 1 = omega arith in
     drop-cons xs k x h ∙ ap (λ y. y ∷ drop (suc k) xs) (sym e) ∙ ap (λ n. x ∷ drop n xs) next

@@ -1,6 +1,9 @@
 -- The lemmas, by subject.
 pub mod Served
+pub mod Alike
+pub mod Splices
 pub mod Varints
 pub mod Consequences
 pub mod Fronts
 pub mod ByKind
+pub mod Flattening

@@ -5,23 +5,22 @@ use Rattle.postcard_wire.specs.Tree.{Tree, Trees, Byte, Boolean, Num, Int, Text,
 use Rattle.postcard_wire.specs.Tree as nodes
 use Rattle.postcard_shape.specs.Base256.{low_value}
 use Rattle.postcard_schema.specs.declared.leaf.Integer.{Integer}
+use Rattle.postcard_schema.specs.declared.leaf.Integer.TheVariants.{U8}
 use Rattle.postcard_schema.specs.declared.leaf.Leaf.{Leaf}
 use Rattle.postcard_schema.specs.declared.leaf.Leaf.TheVariants as leaves
 use Rattle.postcard_schema.specs.Leaves.{float_size, is_signed, size_of}
 use Rattle.postcard_schema.specs.Meaning.{MessageType, MessageTypes, leaf, option, seq, array, group, choice, no_types, then_type}
 use Rattle.postcard_value.specs.Numbers.{bytes_of, order_of, signed_of}
 
--- One thing that is said: a value without parts, whatever its width; of a list the number of its elements, of an enum the index of
--- the variant, and of an option whether there is a value. What is said of an element, a variant's content or an option's value ends
--- with `End`.
+-- One thing that is said: a value without parts, whatever its width; of a list the number of its elements, and of an enum the index of
+-- the variant. An option is said as an enum, with no value at index 0 and a value at index 1. What is said of an element of a list or
+-- of a variant's content ends with `End`.
 pub data Word : Type 0 where
   Truth : Bool → Word
   Number : ℤ → Word
   Float : (size bits : ℕ) → Word
   Letter : ℕ → Word
   Phrase : List ℕ → Word
-  Nothing : Word
-  Something : Word
   Count : ℕ → Word
   Index : ℕ → Word
   End : Word
@@ -35,14 +34,6 @@ abbrev pub fixed_number : Bool → ℕ → ℕ → ℤ
 fixed_number true k n = signed_of k n
 fixed_number false k n = pos n
 
-abbrev pub each_said : Saying → Trees → List Word
-each_said says NoTrees = []
-each_said says (Then t ts) = says t ++ End ∷ each_said says ts
-
-abbrev pub byte_said : Saying
-byte_said (Byte b) = Number (pos b) ∷ []
-byte_said t = []
-
 -- A byte, or a varint with or without a sign.
 abbrev pub integer_said : Integer → Saying
 integer_said integer (Byte b) = Number (fixed_number (is_signed integer) 1 b) ∷ []
@@ -50,27 +41,36 @@ integer_said integer (Num w n) = Number (pos n) ∷ []
 integer_said integer (Int w z) = Number z ∷ []
 integer_said integer t = []
 
+abbrev pub each_said : Saying → Trees → List Word
+each_said says NoTrees = []
+each_said says (Then t ts) = says t ++ End ∷ each_said says ts
+
+abbrev pub list_said : Saying → Saying
+list_said says (Seq ts) = Count (count ts) ∷ each_said says ts
+list_said says t = []
+
 abbrev pub leaf_said : Leaf → Saying
 leaf_said leaves.Bool (Boolean x) = Truth x ∷ []
 leaf_said (leaves.Integer integer) t = integer_said integer t
 leaf_said (leaves.Float float) (Group ts) = Float (float_size float) (low_value (bytes_of ts)) ∷ []
 leaf_said leaves.Char (nodes.Char c) = Letter c ∷ []
 leaf_said leaves.Str (Text u) = Phrase u ∷ []
-leaf_said leaves.Bytes (Seq ts) = Count (count ts) ∷ each_said byte_said ts
+leaf_said leaves.Bytes t = list_said (integer_said U8) t
 leaf_said (leaves.Fixed order integer) (Group ts) = Number (fixed_number (is_signed integer) (size_of integer) ((order_of order).value (bytes_of ts))) ∷ []
 leaf_said l t = []
 
 abbrev pub option_said : Saying → Saying
-option_said says Absent = Nothing ∷ []
-option_said says (Present t) = Something ∷ (says t ++ End ∷ [])
+option_said says Absent = Index 0 ∷ End ∷ []
+option_said says (Present t) = Index 1 ∷ (says t ++ End ∷ [])
 option_said says t = []
 
-abbrev pub list_said : Saying → Saying
-list_said says (Seq ts) = Count (count ts) ∷ each_said says ts
-list_said says t = []
+-- The elements of an array are said as the parts of a group: their number is the type's.
+abbrev pub elements_said : Saying → Trees → List Word
+elements_said says NoTrees = []
+elements_said says (Then t ts) = says t ++ elements_said says ts
 
 abbrev pub array_said : Saying → Saying
-array_said says (Group ts) = each_said says ts
+array_said says (Group ts) = elements_said says ts
 array_said says t = []
 
 abbrev pub group_said : (Trees → List Word) → Saying

@@ -2,7 +2,7 @@
 use Rattle.std.specs.Prelude.{◌≡◌, ℕ, List, ◌++◌}
 use Rattle.postcard_wire.specs.Tree.{Tree, Trees}
 use Rattle.postcard_wire.specs.Spelling.{Spells, SpellsAll}
-use Rattle.postcard_schema.specs.Meaning.{MessageType, MessageTypes, reads, reads_all, reads_at}
+use Rattle.postcard_schema.specs.Meaning.{MessageType, MessageTypes, reads, reads_all, reads_at, row_of}
 use Rattle.postcard_compat.specs.Said.{Word, Saying, said, said_all, said_at}
 
 -- Each tree of the old set has a tree of the new one that says the same, and that all its spellings spell, too.
@@ -19,6 +19,16 @@ Serves new old = SetServes (reads new) (said new) (reads old) (said old)
 
 abbrev pub AllServe : MessageTypes → MessageTypes → Type 0
 AllServe news olds = RowServes (reads_all news) (said_all news) (reads_all olds) (said_all olds)
+
+-- The two types have the same messages, which say the same.
+pub record SameMessages (one other : MessageType) : Type 0 where
+  pub serves : Serves one other
+  pub is_served : Serves other one
+
+-- The same of rows.
+pub record SameRows (ones others : List MessageType) : Type 0 where
+  pub serve : AllServe (row_of ones) (row_of others)
+  pub are_served : AllServe (row_of others) (row_of ones)
 
 -- At each index of the old variants.
 abbrev pub VariantsServe : MessageTypes → MessageTypes → Type 0

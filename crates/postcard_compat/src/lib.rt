@@ -1,14 +1,16 @@
 //! Whether a new version of a type reads what the old version wrote.
 //!
-//! [`serves`] compares two schemas. If it returns `true`, the new type reads each message of the old
-//! type, and the message says the same. `false` promises nothing. [`both`] finds a type that reads
-//! the messages of two versions. The [`laws`] say what follows for the bytes.
+//! Take three steps. [`flattened`] removes nested groups from both types. Then [`serves`] compares
+//! the two: if it returns `true`, the new type reads each message of the old type, and the message
+//! says the same. If it returns `false`, [`serves_front`] tells whether the new type reads the
+//! beginning of each message. `false` promises nothing.
 //!
-//! `specs/Said.antt` defines what a message says, and `specs/Serving.antt` when a type serves
-//! another. Names take no bytes, so they aren't compared.
+//! Types that aren't flattened may be compared, too. Then `((u8, u8), u8)` and `(u8, u8, u8)` aren't
+//! recognized as the same.
 //!
-//! Types that are grouped otherwise, such as `((u8, u8), u8)` and `(u8, u8, u8)`, aren't recognized
-//! yet: `serves` returns `false`. The crate doesn't list differences yet.
+//! [`both`] finds a type that reads the messages of two versions. The [`laws`] say what follows for
+//! the bytes. `specs/Said.antt` defines what a message says, and `specs/Serving.antt` when a type
+//! serves another. Names take no bytes, so they aren't compared.
 #![tactic(auto)]
 
 ghost use Rattle.std.specs.Prelude.{◌≡◌, true};
@@ -16,20 +18,25 @@ ghost use Rattle.postcard_compat.specs.{Serves, VariantsServe, contents, parts_o
 ghost use Rattle.postcard_compat.specs.{types_of};
 
 pub mod common;
+pub mod flat;
+pub mod front;
 pub mod laws;
 mod numbers;
 mod row;
 
 pub use common::both;
+pub use flat::flattened;
+pub use front::serves_front;
 use numbers::leaf_serves;
 use postcard_schema::{Named, Schema};
-use row::{Row, group_row};
+use row::{Row, option_content};
 
 /// Returns `true` if the new type reads every message of the old one, in every encoding, as a
 /// message that says the same. `false` promises nothing.
 ///
-/// Integers may become wider, and an enum may have more variants. Structs and tuples are compared by
-/// their parts. The rest of the two types must be equal.
+/// Integers may become wider, and an enum may have more variants. An option may become an enum: its
+/// first variant has no bytes, and its second variant has the value. Structs and tuples are compared
+/// by their parts. The rest of the two types must be equal.
 #[cycle(serves)]
 pub fn serves(old: &Schema, new: &Schema) -> bool
     ensures { result ≡ true → Serves (type_of new.now) (type_of old.now) }
@@ -39,9 +46,9 @@ pub fn serves(old: &Schema, new: &Schema) -> bool
             Schema::Leaf(new) => leaf_serves(*old, *new),
             _ => false,
         },
-        Schema::Option(old) => match new {
-            Schema::Option(new) => serves(old, new),
-            _ => false,
+        Schema::Option(old) => match option_content(new) {
+            Some(new) => serves(old, new),
+            None => false,
         },
         Schema::Seq(old) => match new {
             Schema::Seq(new) => serves(old, new),
@@ -55,14 +62,14 @@ pub fn serves(old: &Schema, new: &Schema) -> bool
             Schema::Array(new, count) => old_count == count && serves(old, new),
             _ => false,
         },
-        Schema::Tuple(old) => match group_row(new) {
-            Some(new) => old.len() == new.len() && parts_serve(old, new),
-            None => false,
-        },
-        Schema::Struct(old) => match group_row(new) {
-            Some(new) => old.len() == new.len() && named_serve(old, new),
-            None => false,
-        },
+        Schema::Tuple(old) => {
+            let new = Row::of(new);
+            old.len() == new.len() && parts_serve(old, new)
+        }
+        Schema::Struct(old) => {
+            let new = Row::of(new);
+            old.len() == new.len() && named_serve(old, new)
+        }
         Schema::Enum(old) => match new {
             Schema::Enum(new) => named_serve(old, Row::Named(new)),
             _ => false,

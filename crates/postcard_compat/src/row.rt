@@ -1,13 +1,16 @@
-//! The parts of a tuple, a struct or an enum, in order, without their names.
+//! Types as rows of parts and as options, without their names.
 
 ghost use Rattle.std.specs.Prelude.{◌≡◌, ◌<◌, IfSome, get_or, length};
-ghost use Rattle.postcard_compat.specs.{group, parts_of, type_of, types_of};
+ghost use Rattle.postcard_compat.specs.{MessageType, SameMessages, Serves, group, option, parts_of};
+ghost use Rattle.postcard_compat.specs.{type_of, types_of};
 
 use postcard_schema::{Named, Schema};
 
-/// The parts of a tuple, a struct or an enum.
+/// Parts in order: those of a type, or the contents of variants.
 #[derive(Clone, Copy)]
 pub enum Row<'a> {
+    /// A type that is no tuple and no struct, as its only part.
+    One(&'a Schema),
     /// The parts of a tuple.
     Plain(&'a Vec<Schema>),
     /// The fields of a struct, or the variants of an enum.
@@ -15,11 +18,23 @@ pub enum Row<'a> {
 }
 
 impl<'a> Row<'a> {
+    /// Returns the parts of a type. A type that is no tuple and no struct is its only part.
+    pub fn of(schema: &'a Schema) -> Row<'a>
+        ensures { SameMessages (type_of schema.now) (group (types_of (parts_of result))) }
+    {
+        match schema {
+            Schema::Tuple(parts) => Row::Plain(parts),
+            Schema::Struct(fields) => Row::Named(fields),
+            _ => Row::One(schema),
+        }
+    }
+
     /// Returns the number of parts.
     pub fn len(self) -> usize
         ensures { result ≡ length (parts_of self.entry) }
     {
         match self {
+            Row::One(_) => 1,
             Row::Plain(parts) => parts.len(),
             Row::Named(parts) => parts.len(),
         }
@@ -31,6 +46,12 @@ impl<'a> Row<'a> {
             × (part.now ≡ get_or (parts_of self.entry) index part.now)) }
     {
         match self {
+            Row::One(schema) => {
+                if index > 0 {
+                    return None;
+                }
+                Some(schema)
+            }
             Row::Plain(parts) => parts.get(index),
             Row::Named(parts) => match parts.get(index) {
                 Some(part) => Some(&part.content),
@@ -40,13 +61,22 @@ impl<'a> Row<'a> {
     }
 }
 
-/// Returns the parts of a tuple or a struct, and `None` for other types.
-pub fn group_row(schema: &Schema) -> Option<Row<'_>>
-    ensures { IfSome result (λ row. type_of schema.now ≡ group (types_of (parts_of row))) }
+/// Returns the type of the value of an option. An enum is read as an option if its first variant
+/// has no bytes. The value is then the content of the second variant.
+pub fn option_content(schema: &Schema) -> Option<&Schema>
+    ensures { IfSome result (λ content. (x : MessageType) → Serves (type_of content.now) x
+        → Serves (type_of schema.now) (option x)) }
 {
     match schema {
-        Schema::Tuple(parts) => Some(Row::Plain(parts)),
-        Schema::Struct(fields) => Some(Row::Named(fields)),
+        Schema::Option(content) => Some(content),
+        Schema::Enum(variants) => {
+            let absent = variants.get(0)?;
+            let present = variants.get(1)?;
+            if Row::of(&absent.content).len() > 0 {
+                return None;
+            }
+            Some(&present.content)
+        }
         _ => None,
     }
 }

@@ -50,10 +50,9 @@ pub serves-returns-in-Leaf-new : goal.serves-returns-in-Leaf-new
 serves-returns-in-Leaf-new t c = λ yes.
     of_leaf c.args.old.now c.args.new.now _ _ c.in-Leaf.is c.in-Leaf-new.is (c.leaf_serves.ensures yes)
 
-pub serves-returns-in-Option-new : goal.serves-returns-in-Option-new
-serves-returns-in-Option-new t c = λ yes.
-    of_option c.args.old.now c.args.new.now c.deref.result.now c.deref-in-Option-new.result.now c.in-Option.old c.in-Option-new.new c.deref.ensures c.deref-in-Option-new.ensures
-    (c.serves.ensures yes) c.in-Option.is c.in-Option-new.is
+pub serves-returns-in-Some : goal.serves-returns-in-Some
+serves-returns-in-Some t c = λ yes.
+    of_option c.args.old.now c.args.new.now c.deref.result.now c.in-Some.new.now c.in-Option.old c.deref.ensures c.in-Some.ensures (c.serves.ensures yes) c.in-Option.is
 
 pub serves-returns-in-Seq-new : goal.serves-returns-in-Seq-new
 serves-returns-in-Seq-new t c = λ yes.
@@ -75,15 +74,15 @@ serves-returns-then-old_count-count t c = λ yes.
 
 pub serves-returns-then-len : goal.serves-returns-then-len
 serves-returns-then-len t c = λ yes.
-    let ns = parts_of c.in-Some.new in
-    let many : length c.in-Tuple.old.items ≡ length ns = omega (arith, c.in-Tuple.old.ok.0, c.len.ensures, c.if-len.true, c.len-in-Some.ensures) in
-    of_tuple c.args.old.now c.args.new.now c.in-Tuple.old ns c.in-Tuple.is c.in-Some.ensures many (c.parts_serve.ensures yes)
+    let ns = parts_of c.of-new.result in
+    let many : length c.in-Tuple.old.items ≡ length ns = omega (arith, c.in-Tuple.old.ok.0, c.len.ensures, c.if-len.true, c.len-in-Tuple.ensures) in
+    of_tuple c.args.old.now c.args.new.now c.in-Tuple.old ns c.in-Tuple.is c.of-new.ensures many (c.parts_serve.ensures yes)
 
 pub serves-returns-then-len-2 : goal.serves-returns-then-len-2
 serves-returns-then-len-2 t c = λ yes.
-    let ns = parts_of c.in-Some-group_row.new in
-    let many : length c.in-Struct.old.items ≡ length ns = omega (arith, c.in-Struct.old.ok.0, c.len-in-Some-group_row.ensures, c.if-len-2.true, c.len-in-Some-group_row-2.ensures) in
-    of_struct c.args.old.now c.args.new.now c.in-Struct.old ns c.in-Struct.is c.in-Some-group_row.ensures (contents_length c.in-Struct.old.items ∙ many) (c.named_serve.ensures yes)
+    let ns = parts_of c.of-new-in-Struct.result in
+    let many : length c.in-Struct.old.items ≡ length ns = omega (arith, c.in-Struct.old.ok.0, c.len-in-Struct.ensures, c.if-len-2.true, c.len-in-Struct-2.ensures) in
+    of_struct c.args.old.now c.args.new.now c.in-Struct.old ns c.in-Struct.is c.of-new-in-Struct.ensures (contents_length c.in-Struct.old.items ∙ many) (c.named_serve.ensures yes)
 
 pub serves-returns-in-Enum-new : goal.serves-returns-in-Enum-new
 serves-returns-in-Enum-new t c = λ yes.
