@@ -1,10 +1,10 @@
 //! Algorithms by their names in Greg Cook's catalogue of parametrised CRC algorithms.
 //! [`Algorithm`] says what each field is.
 //!
-//! Where the checksum follows the message lowest byte first, as in the checked messages of
-//! [`laws`](crate::laws) and of `postcard`, take an algorithm whose `refin` and `refout` are true:
-//! it sees every burst of changed bits that is not longer than the checksum, also across the end of
-//! the message. The others are marked as not reflected.
+//! In the checked messages of [`laws`](crate::laws) and of `postcard` the checksum follows the
+//! message lowest byte first. Take an algorithm there whose `refin` and `refout` are true. It sees
+//! every burst of changed bits that is not longer than the checksum, also across the end of the
+//! message. The others are marked as not reflected.
 
 ghost use Rattle.std.specs.Prelude.{◌-◌, ◌^◌};
 ghost use Rattle.crc.specs.{HasOrderOf, IsListed};

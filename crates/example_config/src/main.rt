@@ -1,5 +1,5 @@
-//! The configuration of a receiver, kept in a file and sent in commands: structs and enums that
-//! hold memory at any depth, in lists, options, maps and each other, and flavors of a user.
+//! The configuration of a receiver, kept in a file and sent in commands. It has structs and enums
+//! that hold memory at any depth, in lists, options, maps and each other, and flavors of a user.
 #![tactic(auto)]
 
 mod command;

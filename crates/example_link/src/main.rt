@@ -47,7 +47,7 @@ fn print_event(rt: &impl Print, event: &Event) -> Result<()> {
 }
 
 /// Feeds a piece of the stream to the accumulator, and prints a line for each frame that ends in
-/// the piece, and for each oversized one as soon as it has no room.
+/// the piece. An oversized frame has its line as soon as it has no room.
 fn feed(
     rt: &(impl Print + AllocGlobal),
     accumulator: &mut CobsAccumulator<LONGEST_FRAME>,

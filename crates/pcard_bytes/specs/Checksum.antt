@@ -27,9 +27,8 @@ checksum_name Crc64Xz = codes "CRC-64/XZ"
 checksum_name Crc64Ecma182 = codes "CRC-64/ECMA-182"
 checksum_name Crc82Darc = codes "CRC-82/DARC"
 
--- The parameters of an algorithm whose bits come lowest first both in a byte and in the checksum, or
--- highest first in both: the width, the polynomial, the initial value, whether lowest first, and the
--- value that is added last.
+-- The parameters of an algorithm: the width, the polynomial, the initial value, whether bits come lowest first, and the value that is added
+-- last. The bits come in one order both in a byte and in the checksum.
 abbrev algorithm : ℕ → ℕ → ℕ → Bool → ℕ → Parameters
 algorithm width poly init reflected xorout = record {
   width = width;

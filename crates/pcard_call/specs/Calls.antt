@@ -41,8 +41,8 @@ names_input (kind ∷ []) = true
 names_input (kind ∷ input ∷ []) = is_input input
 names_input words = false
 
--- Whether the operands are those that the verb takes with these options: a type and a value, or a type and its bytes as hexadecimal
--- digits or, with `--raw`, from standard input or a file.
+-- Whether the operands are those that the verb takes with these options: a type and a value, or a type and bytes. Bytes are hexadecimal
+-- digits or, with `--raw`, those of standard input or of a file.
 abbrev pub fits : Verb → Given → Words → Bool
 fits verbs.Encode g words = nat_eq (length words) 2
 fits verbs.Decode g words = if g.raw then names_input words else nat_eq (length words) 2

@@ -26,8 +26,8 @@ least_number None = 2 ^ 64
 abbrev pub span_text : ℕ → ℕ → List ℕ
 span_text least greatest = if nat_eq least greatest then decimal least else decimal least ++ (codes " to " ++ decimal greatest)
 
--- The least and the greatest number of bytes of a message, and those of a frame of so much data: one byte and the zero
--- more, and of n bytes without a zero one more for each 254.
+-- The least and the greatest number of bytes of a message, and those of its frame. A frame has two bytes more than its data, and one more
+-- for each 254 bytes without a zero.
 abbrev pub bounded_text : ℕ → ℕ → List ℕ
 bounded_text least greatest =
     codes "bytes: " ++ (span_text least greatest ++ (codes ", as a frame " ++ span_text (least + 2) (greatest + greatest / 254 + 2)))

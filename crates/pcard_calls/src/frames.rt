@@ -30,8 +30,8 @@ pub const READS: usize = 65_536;
 /// # Errors
 ///
 /// Fails with `Limit` if the input doesn't end within 65,536 reads, with `ReadFailed` if a read
-/// fails, and with `OutOfMemory` if an allocation for an answer fails; the lines of the frames
-/// until then are printed.
+/// fails, and with `OutOfMemory` if an allocation for an answer fails. The lines of the frames
+/// before that are printed.
 pub fn print<R: Reader, W: Write>(
     alloc: Global,
     input: &mut R,

@@ -51,8 +51,8 @@ impl ValueType {
     }
 }
 
-/// Returns whether a word counts as a type expression: whether it begins with `(`, `[`, `{` or `&`,
-/// ends with `?` or `>`, has a `|` in it, or is `f32` or `f64`. No name of a type does.
+/// Returns whether a word counts as a type expression. It does if it is `f32` or `f64`, begins with
+/// `(`, `[`, `{` or `&`, ends with `?` or `>`, or has a `|` in it. No name of a type does.
 pub fn is_expression(word: &str) -> bool
     ensures { result ≡ looks_like_expression word.now }
 {

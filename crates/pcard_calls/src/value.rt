@@ -7,9 +7,9 @@ use pcard_message::Failure;
 use std::alloc::Global;
 use std::str::FromStr;
 
-/// Returns the value of a word by the type's `parse`: of a number, the decimal digits, which may
-/// have a `+` before them, or for a signed type a `-`; of a `bool`, `true` or `false`; of a `char`,
-/// one character. Fails with `BadValue` if the word is no value of the type.
+/// Returns the value of a word by the type's `parse`. A number is decimal digits, perhaps after a
+/// `+`, or for a signed type a `-`. A `bool` is `true` or `false`, and a `char` one character.
+/// Fails with `BadValue` if the word is no value of the type.
 pub fn scalar<T: FromStr>(word: &str) -> Result<T, Failure<'static>>
 where
     T::Err: Drop,

@@ -42,8 +42,8 @@ bytes_text layout bytes = if layout.all then spaced bytes else if nat_le (length
 abbrev pub offset_text : Layout → ℕ → List ℕ
 offset_text layout at = encode_lower (drop (8 - layout.offset) (to_be_bytes w64 (offset at)))
 
--- The number of blanks between n bytes and the text of a row: those up to the longest row, of whose columns at most nine count, one, and
--- two for each level of depth, of which at most twelve count.
+-- The number of blanks between n bytes and the text of a row: those up to the longest row, one, and two for each level of depth. Of the
+-- longest row's columns at most nine count, and of the levels at most twelve.
 abbrev pub blanks_of : Layout → ℕ → ℕ → ℕ
 blanks_of layout depth n = 3 * min layout.longest 9 - 3 * min n 9 + 1 + 2 * min depth 12
 

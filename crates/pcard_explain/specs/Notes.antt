@@ -14,8 +14,8 @@ use Rattle.pcard_explain.specs.declared.rows.Trailer.{Trailer as TrailerHere}
 
 -- ---- what is said
 
--- What a row says its bytes are: the checksum with this name; those after the value; the code byte of a group, and whether a zero of the
--- data follows the group; the zero that ends a frame; those after the frame.
+-- What a row says its bytes are: the checksum with this name; those after the value; the code byte of a group; the zero that ends a frame;
+-- those after the frame. A code byte says whether a zero of the data follows its group.
 pub data Note : Type 0 where
   checksum : List ℕ → Note
   after : Note
@@ -112,8 +112,8 @@ rest_notes (Some t) at bytes =
 abbrev pub has_zero : ℕ → ℕ → Bool
 has_zero c n = nat_lt c 255 && nat_lt (c - 1) n
 
--- The rows of the bytes of a frame from this offset on, of which the first `left` are those of a group: a row for each code byte, and one
--- for the zero after the frame.
+-- The rows of the bytes of a frame from this offset on: a row for each code byte, and one for the zero after the frame. The first `left`
+-- bytes are those of a group.
 abbrev pub frame_notes : ℕ → ℕ → List ℕ → List Noted
 frame_notes at left [] = record { at = at; bytes = 0 ∷ []; note = end } ∷ []
 frame_notes at left (b ∷ bytes) =

@@ -28,9 +28,9 @@ pub struct Trailer<'a> {
     pub size: usize,
 }
 
-/// Prints the rows of an explanation: one for each line of the value, one for the checksum after it,
-/// if there is a trailer, and one for the bytes after that, if there are some. The checksum's row
-/// has fewer bytes if the bytes end before.
+/// Prints the rows of an explanation, one for each line of the value. If there is a trailer, a row
+/// for the checksum follows. If bytes are left, a row for them follows. The checksum's row has
+/// fewer bytes if the bytes end before.
 ///
 /// A row of text has at most 80 columns and at most 8 bytes, unless `all` is asked for. What is cut
 /// ends with `..`. Nothing of a row of JSON is cut.

@@ -10,8 +10,8 @@ IsAround mark text before after = SplitsAroundMatch (FindsText mark) text before
 abbrev pub Lacks : List ℕ → List ℕ → Type 0
 Lacks mark text = FindsText mark text None
 
--- The text of a file outside of its marks: before the first one, and behind the second one, each the first that stands there; and of a file
--- with neither all, and nothing.
+-- The text of a file outside of its marks: the one before the first mark, and the one behind the second. Each mark is the first that stands
+-- there. Of a file with neither, these are the whole text and nothing.
 abbrev pub IsOutside : List ℕ → List ℕ → List ℕ → List ℕ → List ℕ → Type 0
 IsOutside first second file before after =
     ((inside : List ℕ) × (rest : List ℕ) × IsAround first file before rest × IsAround second rest inside after)

@@ -5,7 +5,7 @@ use Rattle.std.specs.Prelude.{◌≡◌, ◌<◌, ◌==◌, ◌||◌, ltb, leb, 
 abbrev pub plain_byte : Bool → ℕ → ℕ
 plain_byte is_outside byte = if byte == 10 then 10 else if is_outside then byte else 32
 
--- Each byte of the file stands for itself, or what it is replaced by: those before index `start` and from index `end` on are outside of
+-- Each byte of the file stands for itself, or what it is replaced by. The bytes before index `start` and from index `end` on are outside of
 -- its marks, and the others between them.
 abbrev pub IsPlain : ℕ → ℕ → List ℕ → List ℕ → Type 0
 IsPlain start end file plain = (length plain ≡ length file)

@@ -50,9 +50,10 @@ impl ImplFailure<'_> {
     }
 }
 
-/// Prints the file with these bytes and the impls of its types, and returns the exit status: 0; 1 if
-/// memory is lacking; 2 if there are no impls for another reason; 3 if what there is to print can't be
-/// written. At 1 and 2 a line on `errors` says why, and nothing is printed. `path` is that of the file.
+/// Prints the file with these bytes and the impls of its types, and returns the exit status. It is
+/// 0, or 1 out of memory, 3 if the output can't be written, and 2 if there are no impls for another
+/// reason. At 1 and 2 a line on `errors` says why, and nothing is printed. `path` is that of the
+/// file.
 pub fn answer<W: Write, E: Write>(
     alloc: Global,
     path: &str,

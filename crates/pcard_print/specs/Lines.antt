@@ -114,8 +114,8 @@ more_text (b ∷ rest) =
 abbrev pub value_text : Schema → Value → List ℕ → Option (List ℕ)
 value_text schema v rest = text (layout_of schema) (tree v) ++? Some (more_text rest ++ 10 ∷ [])
 
--- The text is the JSON (RFC 8259) of this data, without blanks and with control characters as escapes: its items and members are in
--- order, each once, and it is read as the data, if this nests at most 127 deep. Of the digits of a float only that is said.
+-- The text is the JSON (RFC 8259) of this data, without blanks and with control characters as escapes. Its items and members are in order,
+-- each once. It is read as the data, if this nests at most 127 deep. Of the digits of a float only that is said.
 pub record IsCompactText (d : Data) (text : List ℕ) : Type 0 where
   pub compact : text ≡ escaped (print (tokens text))
   pub in_order : IsInOrder text d
@@ -158,8 +158,8 @@ PrintsAnswer notation schema start (refused w) old new = Appends old new (refusa
 abbrev pub two_lines : Schema → Value → List ℕ → List ℕ → Option (List ℕ)
 two_lines schema v rest after = value_text schema v rest ++? Some (encode_lower after ++ 10 ∷ [])
 
--- A value is printed, with the bytes of its data after it, and those after its message or frame: as text on a second line, as JSON in a
--- member, which without a frame is `rest`.
+-- A value is printed, with the bytes of its data after it, and those after its message or frame. As text these are on a second line, as
+-- JSON in a member, which without a frame is `rest`.
 abbrev pub PrintsFirst : Notation → Bool → Schema → Value → List ℕ → List ℕ → Option (List ℕ) → Option (List ℕ) → Type 0
 PrintsFirst Text framed schema v rest after old new = Prints (two_lines schema v rest after) old new
 PrintsFirst Json true schema v rest after old new = PrintsJson schema 0 v rest after old new

@@ -5,8 +5,8 @@ use Rattle.postcard_shape.specs.Shape.{Shape}
 use Rattle.postcard_ser.specs.Writing.{IsErrorOf, encoding}
 use Rattle.postcard_wire.specs.declared.error.Error.{Error}
 
--- The bytes m decode to the bytes d: they are a frame without a zero, whose groups have just the
--- data d (Cheshire and Baker, 1999), and then the one zero that ends it.
+-- The bytes m decode to the bytes d. They are a frame without a zero, whose groups have just the data d (Cheshire and Baker, 1999), and
+-- then the one zero that ends it.
 pub record DecodesTo (m d : List ℕ) : Type 0 where
   pub frame : List ℕ
   pub ends : m ≡ frame ++ 0 ∷ []

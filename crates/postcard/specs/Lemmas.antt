@@ -38,8 +38,8 @@ pub use Rattle.postcard_de_nodes.specs.ReadLemmas.{out_of_memory}
 pub use Rattle.postcard_de.proofs.Lists.{prefixed, Going, going, goes_on, going_stops, going_full, going_done}
 pub use Rattle.postcard_de_nodes.specs.CountLemmas.{list_read, list_refused, count_refused}
 pub use Rattle.postcard_de.proofs.Parts.{part_and_rest}
--- How a value that is made of others is read: its parts from left to right, of which the first that
--- can't be read ends the reading, and the index and the content of a variant.
+-- How a value that is made of others is read: its parts from left to right, or the index and the content of a variant. The first part that
+-- can't be read ends the reading.
 pub use Rattle.postcard_de_nodes.specs.ReadLemmas.{refusal, is_refusal}
 pub use Rattle.postcard_de_nodes.specs.NumberLemmas.{Below}
 pub use Rattle.postcard_de.proofs.Parts.{AllAre, NoneIs, and_part, and_fails, stops, no_more}
@@ -49,8 +49,8 @@ pub use Rattle.postcard_de.proofs.Enums.{unknown_index}
 pub use Rattle.postcard_de_nodes.specs.SeenLemmas.{no_room}
 -- Errors of parts are among those of a type that allocates.
 pub use Rattle.postcard_de_nodes.specs.ErrorLemmas.{with_memory, only_memory}
--- A reading loop of a caller: the state within a piece that is fed, and the answers of bytes in a
--- row; and what a feed of a caller, by `take_in`, may return.
+-- A reading loop of a caller: the state within a piece that is fed, the answers of bytes in a row, and what a feed of a caller, by
+-- `take_in`, may return.
 pub use Rattle.postcard_accumulator.proofs.ReadLoop.{AtWindow, at_start, at_next, at_end, shorter}
 pub use Rattle.postcard_accumulator.proofs.Joining.{joined_law}
 pub use Rattle.postcard_accumulator.proofs.Taking.{read_consumed, read_over_full}

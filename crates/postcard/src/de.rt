@@ -17,8 +17,8 @@ use std::alloc::Global;
 /// none. The scratch left is the rear of the one passed; of the whole only the first bytes, at most
 /// as many as were read, may have changed.
 ///
-/// Over a steady reader it succeeds if a front of the bytes spells a tree that the type reads, the
-/// scratch is at least as long as that front, and no allocation fails.
+/// Over a steady reader it succeeds if a front of the bytes spells a tree that the type reads and
+/// the scratch is at least as long as that front. An allocation may still fail.
 /// [`Plain`](crate::de_flavors::Plain) wraps a reader that is no `Reader`.
 ///
 /// # Errors

@@ -13,9 +13,9 @@ use postcard_ser::Serialize;
 use postcard_wire::Result;
 use std::alloc::Global;
 
-/// What was encoded is decoded, whatever bytes follow: bytes that begin with the canonical encoding
-/// of a tree that the type reads are read as a value of that tree, and just the bytes after it are
-/// left.
+/// What was encoded is decoded, whatever bytes follow. Let bytes begin with the canonical encoding
+/// of a tree that the type reads. They are read as a value of that tree, and just the bytes after
+/// it are left.
 pub fn decodes_encoded<'a, T: Deserialize<'a>>()
     ensures spelled { (t : Tree) → T.shape.reads t → Spells t (canonical t) }
     ensures decoded { (t : Tree) (rest left : List ℕ) (v : T) → T.shape.reads t

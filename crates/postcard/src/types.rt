@@ -46,8 +46,8 @@ pub fn write_variant<E: Shaped, T: Serialize, F: Flavor>(
     serialize_variant(index, content, serializer)
 }
 
-/// A type whose values are made of their parts: those of a struct are the tuple of its fields, or a
-/// tuple of tuples of them, and those of an enum its variants in a row (`Case`).
+/// A type whose values are made of their parts. Those of a struct are the tuple of its fields, or a
+/// tuple of tuples of them. Those of an enum are its variants in a row (`Case`).
 ///
 /// Its shape is that of the parts, `via ⟦<Point as FromParts>⟧.seen ⟦<Parts as Shaped>⟧.shape`, and
 /// its `deserialize` calls [`read_parts`].

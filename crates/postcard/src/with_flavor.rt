@@ -5,10 +5,11 @@ ghost use Rattle.std.specs.Prelude.{◌≡◌, ◌≤◌, ◌++◌, length, IfOk
 ghost use Rattle.postcard.specs.{Appends, Encodes, EncodesGrowing, IsErrorOf, IsWilling, encoding};
 ghost use Rattle.postcard.specs.Finished.{Finished};
 
+use crate::experimental::serialized_size;
 use arrayvec::ArrayVec;
 use postcard_ser::{Serialize, Serializer};
 use postcard_ser_flavors::io::WriteFlavor;
-use postcard_ser_flavors::{AllocVec, ExtendBytes, ExtendFlavor, Flavor, HVec, StdVec};
+use postcard_ser_flavors::{AllocVec, ExtendBytes, ExtendFlavor, Flavor, HVec};
 use postcard_wire::{Error, Result};
 use std::alloc::Global;
 use std::io::Write;
@@ -68,7 +69,10 @@ pub fn to_vec<T: Serialize, const B: usize>(value: &T) -> Result<ArrayVec<u8, B>
     serialize_with_flavor(value, HVec::new())
 }
 
-/// Encodes a value into a new `Vec`.
+/// Encodes a value into a new `Vec`, whose memory it requests once, as much as the encoding needs.
+///
+/// The value is written twice: first to count its bytes. For a value that is slow to write, such as
+/// a long text by `collect_str`, [`to_extend`] with an empty `Vec` writes it once.
 ///
 /// # Errors
 ///
@@ -85,7 +89,11 @@ pub fn to_allocvec<T: Serialize>(alloc: Global, value: &T) -> Result<Vec<u8>>
     ensures { EncodesGrowing T.shape value.now (λ vec. vec.items ≡ encoding T.shape value.now)
         result }
 {
-    serialize_with_flavor(value, AllocVec::new(alloc))
+    let size = serialized_size(value)?;
+    let Ok(vec) = Vec::with_capacity(alloc, size) else {
+        return Err(Error::SerializeBufferFull);
+    };
+    serialize_with_flavor(value, AllocVec::from_vec(vec))
 }
 
 /// [`to_allocvec`] under the name that the Rust crate has for `std`.
@@ -100,7 +108,7 @@ pub fn to_stdvec<T: Serialize>(alloc: Global, value: &T) -> Result<Vec<u8>>
     ensures { EncodesGrowing T.shape value.now (λ vec. vec.items ≡ encoding T.shape value.now)
         result }
 {
-    serialize_with_flavor(value, StdVec::new(alloc))
+    to_allocvec(alloc, value)
 }
 
 /// Encodes a value after what the target `writer` holds, and returns the target.

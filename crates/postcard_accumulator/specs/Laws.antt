@@ -70,9 +70,8 @@ Split {T} shape =
     × Answers n shape (holding []) u b (holding [])
     × Answers n shape (holding []) x e (holding []) × Answers n shape (holding []) v f d
 
--- So damage that turns x into y and keeps its last zero changes no answer of u or v and not the
--- state at the end: the answers of u, x, v and of u, y, v differ only in those of x and y, except
--- for values that look alike.
+-- So damage that turns x into y and keeps its last zero changes no answer of u or v and not the state at the end. Except for values that
+-- look alike, the answers of u, x, v and of u, y, v differ only in those of x and y.
 abbrev pub DamageStays : {T : Type 0} → Shape T → Type 0
 DamageStays {T} shape = ¬ Grows shape →
     (n : ℕ) (d e : State) (u x y v : List ℕ) (a b : List (Answer T))

@@ -22,8 +22,8 @@ stream_of [] = []
 stream_of (message v frame ∷ more) = frame ++ stream_of more
 stream_of (oversized f ∷ more) = ended f ++ stream_of more
 
--- Each message's frame is the made frame of the canonical encoding of a value that fits, and has
--- room; what is oversized has no zero, and with the zero that ends it no room.
+-- Each message's frame is the made frame of the canonical encoding of a value that fits, and has room. What is oversized has no zero, and
+-- with the zero that ends it no room.
 abbrev pub AreSent : {T : Type 0} → ℕ → Shape T → List (Sent T) → Type 0
 AreSent n shape [] = Unit {0}
 AreSent n shape (message v frame ∷ more) =

@@ -31,8 +31,8 @@ EndsWell reads given chunk Limit = reads ≤ given
 EndsWell reads given chunk ReadFailed = Unit {0}
 EndsWell reads given chunk (OutOfMemory from to) = (from < to) × (to ≤ length chunk)
 
--- The bytes `given` were read, which are the next ones of the reader if it knows its bytes, and the
--- answers added are those of all of them except for the bytes that weren't fed.
+-- The bytes `given` were read, which are the next ones of the reader if it knows its bytes. The answers added are those of all of them
+-- except for the bytes that weren't fed.
 pub record IsReading {T : Type 0} (n : ℕ) (own : List ℕ → Answer T → Type 0) (reads : ℕ)
     (known left : Option (List ℕ)) (chunk : List ℕ) (before after : State)
     (old new : List (Answer T)) (end : ReadEnd) : Type 0 where

@@ -1,5 +1,5 @@
--- The own answer of a frame, for the half of a feed that only decodes it and for a type's values, and
--- with that what a feed returns, the answers of a stream and the reading loop.
+-- The own answer of a frame, for the half of a feed that only decodes it and for a type's values. With that it defines what a feed returns,
+-- the answers of a stream and the reading loop.
 use Rattle.std.specs.Prelude.{ℕ, List, Option}
 use Rattle.std.specs.Borrow.{Bor}
 use Rattle.postcard_cobs.specs.Groups.{Groups}

@@ -27,8 +27,8 @@ pub fn joined<T: DeserializeOwned>()
     ensures { Joined T.shape }
 {}
 
-/// If `u` and `x` are each empty or end in a zero, then in an accumulator that holds nothing the
-/// answers of `u`, `x` and `v` in a row are those of `u`, of `x` and of `v`.
+/// In an accumulator that holds nothing the answers of `u`, `x` and `v` in a row are those of `u`,
+/// of `x` and of `v`. `u` and `x` must each be empty or end in a zero.
 pub fn split<T: DeserializeOwned>()
     ensures { Split T.shape }
 {}
@@ -62,7 +62,7 @@ pub fn frames_are_one()
 {}
 
 /// In an accumulator that holds nothing, values that were encoded as frames that have room come
-/// back in order, whatever oversized frames are between them: the answer to each is `Success` with
+/// back in order, whatever oversized frames are between them. The answer to each is `Success` with
 /// a value that looks like it, or `DeserError` if its type grows.
 pub fn messages_arrive<T: DeserializeOwned>()
     ensures { MessagesArrive T.shape }

@@ -20,7 +20,7 @@
 //!
 //! The frame consists of `h` and then `p[..n]`. Its own answer is `Success`, with the value that a
 //! front of the frame's data spells and with `p[n + 1..]`, if there is such a value and memory for
-//! it; otherwise it is `DeserError` of `p[n + 1..]`.
+//! it. Otherwise it is `DeserError` of `p[n + 1..]`.
 //!
 //! So an oversized frame has one answer, wherever the line cuts it. A link that joins late may
 //! begin inside a frame. It loses at most what comes before the first zero, which may give

@@ -81,7 +81,8 @@ fn feed_all<T: DeserializeOwned, const N: usize>(
 /// call continues there.
 ///
 /// The answers are those of the stream, however the reader cuts it: of what was held before, and of
-/// all bytes read, except for `chunk[from..to]` at `OutOfMemory`, which the caller must feed next.
+/// all bytes read. At `OutOfMemory` those of `chunk[from..to]` are missing, which the caller must
+/// feed next.
 ///
 /// `ReadFailed` is never returned for a steady reader. At `Limit` at least `reads` bytes were read.
 /// What is said here of the bytes read is promised of a reader that knows its bytes.

@@ -6,9 +6,8 @@ use Rattle.postcard_accumulator.specs.Feeding.{EndsFitting, Overflows, IsHeld}
 use Rattle.postcard_c.specs.declared.accumulator.Accumulator.{Accumulator}
 use Rattle.postcard_c.specs.declared.accumulator.Outcome.{Outcome}
 
--- What the piece p completes in an accumulator of n bytes that holds h, by the number of the answer: as
--- `IsFedHolding` of the crate `postcard_accumulator` with `IsDecoded`, in which `rest` is what is left of
--- the piece, and d is the data of the frame.
+-- What the piece p completes in an accumulator of n bytes that holds h, by the number of the answer. It is as `IsFedHolding` of the crate
+-- `postcard_accumulator` with `IsDecoded`. In it `rest` is what is left of the piece, and d is the data of the frame.
 pub record Steps (n : ℕ) (h p : List ℕ) (answer : ℕ) (rest d : List ℕ) (after : State) : Type 0 where
   pub named : answer ≤ 3
   pub nothing : answer ≡ 0 → IsHeld n h p after × (rest ≡ [])

@@ -35,11 +35,10 @@ abbrev pub IsRefused : (List ℕ → ℕ → Type 0) → (List ℕ → Error →
 IsRefused wants bad bytes e =
     ((e ≡ DeserializeUnexpectedEnd) × EndsEarly wants bytes) ⊎ BeginsBad bad bytes e
 
--- The call, whose task was to read a tree of the set `reads`, turned the reader `old` into `new`, and
--- what its pointer points to from `before` into `now`. It succeeds if and only if a front of the bytes
--- spells such a tree. It fails with the number of an error: the bytes end although more are wanted, as
--- `wants` says, or a front of them is refused, as `bad` says; nothing else is changed then. A reader
--- that failed before is unchanged.
+-- The call, whose task was to read a tree of the set `reads`, turned the reader `old` into `new`, and what its pointer points to from
+-- `before` into `now`. It succeeds if and only if a front of the bytes spells such a tree. It fails with the number of an error: the bytes
+-- end although more are wanted, as `wants` says, or a front of them is refused, as `bad` says. Nothing else is changed then. A reader that
+-- failed before is unchanged.
 pub record Gets {V : Type 0} (reads : Tree → Type 0) (value : Tree → V → Type 0)
     (wants : List ℕ → ℕ → Type 0) (bad : List ℕ → Error → Type 0) (old new : Reader)
     (before now : V) (result : ℕ) : Type 0 where

@@ -148,8 +148,9 @@ fn take_in(buf: &mut [u8], held: usize, skipping: bool, piece: &[u8]) -> Outcome
     }
 }
 
-/// Takes in a piece of a stream up to the end of a frame, and returns what that completed: 0 if no
-/// frame ended but a skipped one, 1 for a frame, 2 for one without room, 3 for what is no COBS frame.
+/// Takes in a piece of a stream up to the end of a frame, and returns what that completed. It is 1
+/// for a frame, 2 for one without room, 3 for what is no COBS frame, and 0 if none or only a
+/// skipped one ended.
 ///
 /// Writes into `taken` how many bytes of the piece were taken; the caller feeds the others next.
 /// Writes into `count` how many a frame's data has, or 0 without a frame; the data is at the front

@@ -24,8 +24,8 @@ fn frame_into<B: Storage + Drop>(bytes: &[u8], storage: B) -> (B, Result<()>)
     }
 }
 
-/// Writes bytes as a frame into the front of a buffer, and returns the whole buffer in any case,
-/// with the number of the frame's bytes, or `SerializeBufferFull` if it has no room.
+/// Writes bytes as a frame into the front of a buffer. Returns the whole buffer in any case, and
+/// the number of the frame's bytes, or `SerializeBufferFull` if it has no room.
 fn write_frame<'a>(bytes: &[u8], buffer: &'a mut [u8]) -> (&'a mut [u8], Result<usize>)
     ensures same_loan { result.0.ghost_name ≡ buffer.entry.ghost_name }
     ensures count_is_length { IfOk result.1 (λ count. count ≡ length (made bytes.now)) }

@@ -7,8 +7,8 @@
 //!
 //! Each fails with `DeserializeUnexpectedEnd` if the bytes end before the node does. A number, an
 //! index, a count or a length fails with `DeserializeBadVarint` if its varint has more bytes than
-//! its width allows, 3, 5, 10 or 19 for 16, 32, 64 or 128 bits, or its number more bits. A call
-//! with an error of its own says so.
+//! its width allows, or its number more bits. The bytes are at most 3, 5, 10 or 19 for 16, 32, 64
+//! or 128 bits. A call with an error of its own says so.
 
 ghost use Rattle.std.specs.Prelude.{◌≡◌, ◌+◌, ◌*◌, ◌^◌, ◌<◌};
 ghost use Rattle.postcard_c.specs.{AreBytesOf, BadBool, BadChar, BadNumber, BadText, Boolean, Byte};

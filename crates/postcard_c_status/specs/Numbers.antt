@@ -10,8 +10,8 @@ use Rattle.postcard_wire.specs.declared.error.Error.TheVariants.{DeserializeBadE
 use Rattle.postcard_wire.specs.declared.error.Error.TheVariants.{DeserializeBadCrc, SerdeSerCustom}
 use Rattle.postcard_wire.specs.declared.error.Error.TheVariants.{SerdeDeCustom, CollectStrError, OutOfMemory}
 
--- The place of the error in the list of errors of postcard 1.1.3, counted from 0, and after these
--- `OutOfMemory`; but 1 for the first, which no call for C returns, since 0 is success.
+-- The place of the error in the list of errors of postcard 1.1.3, counted from 0, and after these `OutOfMemory`. The first is 1, since 0 is
+-- success; no call for C returns it.
 abbrev pub number_of : Error → ℕ
 number_of WontImplement = 1
 number_of NotYetImplemented = 1

@@ -24,8 +24,8 @@ read_whole new old h t rest r =
     let whole = spelled (canonical t) (Spells-canonical t (type_well_formed old t r)) in
     (s, p, same, whole, λ u q x w k e. type_delimited new u s q (canonical t) x rest w p k whole e)
 
--- If one type serves both, then what the new type reads of an old message, whatever follows that, is the whole message, and says the
--- same: nothing is misread, and no byte of a next message is taken.
+-- If one type serves both, then what the new type reads of an old message is the whole message, and says the same, whatever follows.
+-- Nothing is misread, and no byte of a next message is taken.
 pub never_misread : (both new old : MessageType) → Serves both old → Serves both new → (t s : Tree) (p q x y : List ℕ)
     → reads old t → reads new s → Spells t p → Spells s q → p ++ x ≡ q ++ y → (p ≡ q) × (said new s ≡ said old t)
 never_misread both new old h k t s p q x y r w sp sq e =

@@ -11,9 +11,8 @@ use Rattle.postcard_wire.specs.declared.error.Error.TheVariants.{OutOfMemory, De
 use Rattle.postcard_shape.specs.Shape.{Shape, Grows}
 
 module _ {V : Type 0} (shape : Shape V) (k : ℕ) (d : Progress) (bytes : List ℕ) where
-  -- If a front of the bytes spells a tree that is read, and the k bytes of its checksum, by what the digest d has
-  -- taken, and then `rest` follow it, the call returns a value of that tree and the rest, unless memory runs out
-  -- for a type that grows.
+  -- Let a front of the bytes spell a tree that is read, and the k bytes of its checksum, by what the digest d has taken, and then `rest`
+  -- follow. The call returns a value of that tree and the rest. A type that grows may run out of memory.
   abbrev pub AcceptsFrontAndRest : Result (V × Bor (List ℕ)) Error → Type 0
   AcceptsFrontAndRest r = (t : Tree) (a : Parameters) (m front rest : List ℕ) (crc : ℕ)
       → shape.reads t → Spells t front → IsSound a → Took d a m

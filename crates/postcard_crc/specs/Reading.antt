@@ -78,8 +78,8 @@ abbrev pub HasExactErrors : {V R : Type 0} → Shape V → ℕ → Progress → 
 HasExactErrors shape k d bytes r = MatchResult r (λ _. IsFaultless shape.reads (Grows shape) k d bytes)
     (IsFaultOf shape.reads (Grows shape) k d bytes)
 
--- What was sent is a message with its checksum in k bytes, by a sound algorithm whose message and
--- checksum come lowest bit first; of it at most `width` bits in a row were changed into the bytes that came.
+-- What was sent is a message with its checksum in k bytes, by a sound algorithm whose message and checksum come lowest bit first. Of it at
+-- most `width` bits in a row were changed into the bytes that came.
 pub record IsDamaged (k : ℕ) (a : Parameters) (sent came : List ℕ) : Type 0 where
   pub sound : IsSound a
   pub narrow : a.width ≤ 8 * k

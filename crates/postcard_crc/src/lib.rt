@@ -1,5 +1,5 @@
-//! Messages with a checksum after them, also in frames: the encoding of a value, and then the
-//! checksum of the encoding in as many bytes as the checksum's type has, the lowest first.
+//! Messages with a checksum after them, also in frames. The checksum is that of the value's
+//! encoding, in as many bytes as its type has, the lowest first.
 //!
 //! # Errors of encoding
 //!

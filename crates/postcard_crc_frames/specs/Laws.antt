@@ -25,9 +25,8 @@ MessageArrives {T} shape =
     → Groups frame (canonical (shape.tree x) ++ low_bytes k crc) → IsOwn shape k a frame answer
     → Arrives shape x answer
 
--- If the data of a frame is that of a value that fits, with its checksum, but for at most `width`
--- bits in a row that were changed, and the frame's own answer is a value, then nothing was changed,
--- and the value looks like the one that was sent.
+-- Let the data of a frame be that of a value that fits, with its checksum, and at most `width` bits in a row be changed. If the frame's own
+-- answer is a value, nothing was changed, and the value looks like the one that was sent.
 abbrev pub DamageRefused : {T : Type 0} → Shape T → Type 0
 DamageRefused {T} shape =
     (k : ℕ) (a : Parameters) (x v : T) (crc : ℕ) (frame came : List ℕ) → shape.fits x

@@ -12,7 +12,7 @@ pub fn message_arrives<T: DeserializeOwned>()
 {}
 
 /// A frame whose data was damaged within as many bits in a row as the checksum has never has a
-/// value as its answer, unless nothing was changed; the algorithm's `refin` and `refout` are true.
+/// value as its answer, unless nothing was changed. The algorithm's `refin` and `refout` are true.
 pub fn damage_refused<T: DeserializeOwned>()
     ensures { DamageRefused T.shape }
 {}

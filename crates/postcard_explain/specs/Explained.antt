@@ -117,8 +117,8 @@ ExplainsMore depth label item n lines = IsMore depth label n (bytes_of lines) li
 abbrev pub IsLast : List Line → Type 0
 IsLast lines = (lines ≡ []) ⊎ ((line : Line) × (lines ≡ line ∷ []) × (line.kind ≡ AfterValue))
 
--- The lines are those of a value of the schema at the front of the bytes, where of one list at most `most` elements have lines of
--- their own, and, if there are bytes after it, one of these bytes.
+-- The lines are those of a value of the schema at the front of the bytes and, if bytes follow it, a line for these. Of one list at most
+-- `most` elements have lines of their own.
 pub record IsExplained (most : ℕ) (schema : Schema) (bytes : List ℕ) (lines : List Line) : Type 0 where
   pub front : List Line
   pub rest : List Line

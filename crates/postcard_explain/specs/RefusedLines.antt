@@ -30,8 +30,8 @@ mutual
     no_index : (depth : ℕ) (label : PlainLabel) (s : Schema) (line : Line) (variants : Vec (Named Schema) Global) → s ≡ schemas.Enum variants
         → IsAt depth label line → line.kind ≡ Refused expectations.Variant → HasNoIndex (length variants.items) line.bytes.now
         → Refuses most depth label s (line ∷ [])
-    -- The content of an option, an element of a list, a map or an array, a part of a tuple or a struct, and the content of a variant,
-    -- with the lines that a value has before it.
+    -- A part of a value, with the lines that the value has before it. It is the content of an option or a variant, an element of a list, a
+    -- map or an array, or a part of a tuple or a struct.
     in_present : (depth : ℕ) (label : PlainLabel) (s : Schema) (line : Line) (content : Box Schema Global) (more : List Line)
         → s ≡ schemas.Option content → IsAt depth label line → line.kind ≡ Present → line.bytes.now ≡ 1 ∷ []
         → Refuses most (deeper depth) whole content.value more → Refuses most depth label s (line ∷ more)
@@ -70,8 +70,8 @@ mutual
     in_element : (depth : ℕ) (item : Item) (n i : ℕ) (lines more : List Line) → i < n → ExplainsElements most depth item i lines
         → RefusesItem most depth (at_element i) item more → RefusesElements most depth item n (lines ++ more)
 
--- The lines are those of one of n items that can't be read, whose number is `most` or more, and the line before it for those from
--- number `most` on, if there are some.
+-- The lines are those of one of n items that can't be read, whose number is `most` or more. Before it is the line for the items from number
+-- `most` on, if there are some.
 abbrev pub RefusesMore : ℕ → ℕ → Item → ℕ → List Line → Type 0
 RefusesMore most depth item n lines =
     (i : ℕ) × (head : List Line) × (more : List Line) × (most ≤ i) × (i < n) × ExplainsMore depth (at_element most) item (i - most) head

@@ -25,8 +25,8 @@ pub struct Explanation<'a> {
 /// line, in order.
 ///
 /// The lines are those of the value at the front of the bytes, as `postcard_value::take_from_bytes`
-/// reads it: one for each value without parts, count, index and byte of an option, and one without
-/// bytes for each tuple, struct or array in another value and each entry of a map. The bytes after
+/// reads it. Each value without parts, count, index and byte of an option has a line. Each tuple,
+/// struct or array in another value and each entry of a map has one without bytes. The bytes after
 /// the value are the last line, if there are some. If a part can't be read, its line is the last,
 /// and has the rest of the bytes. Of a list, a map or an array, the elements after the first `most`
 /// are on one line, and all others have lines of their own.

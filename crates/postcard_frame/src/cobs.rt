@@ -44,7 +44,7 @@ pub fn from_bytes_cobs<'a, T: Deserialize<'a>>(alloc: Global, s: &'a mut [u8]) -
 }
 
 /// Does the same as [`from_bytes_cobs`], with the same errors, and returns the value with the bytes
-/// after the frame and after the zero that ends it; there are none if there is no zero. The next
+/// after the frame and after the zero that ends it. There are none if there is no zero. The next
 /// call can read the next frame from them while the value is used.
 ///
 /// Once the loan has ended, the buffer holds the zero as it was, and then what the caller made of

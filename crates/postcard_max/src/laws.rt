@@ -19,8 +19,8 @@ use std::rc::Rc;
 use std::sync::Arc;
 use std::time::Duration;
 
-/// No canonical encoding of a tree that a type reads is longer than the type's greatest size, and
-/// that of some tree is as long if the type says that its size is reached.
+/// No canonical encoding of a tree that a type reads is longer than the type's greatest size. That
+/// of some tree is as long if the type says that its size is reached.
 pub fn sizes<T: MaxSize>()
     ensures bounded { AreBounded T.limit.greatest T.shape.reads }
     ensures reached { T.limit.reached → IsReached T.limit.greatest T.shape.reads }

@@ -14,8 +14,9 @@ pub use endless::endless_parts;
 use postcard_schema::Schema;
 use walk::sizes_of;
 
-/// Returns the greatest number of bytes of a message of the type, or `None` if none is known: a
-/// text, a byte string or a list is in it, or an enum without variants, or it does not fit `usize`.
+/// Returns the greatest number of bytes of a message of the type, or `None` if none is known. None
+/// is if a text, a byte string, a list or an enum without variants is in the type, or if the number
+/// does not fit `usize`.
 ///
 /// No message is longer, and if the indices of all variants are below 2^32, one is as long.
 pub fn max_size(schema: &Schema) -> Option<usize>
@@ -27,8 +28,8 @@ pub fn max_size(schema: &Schema) -> Option<usize>
     sizes_of(schema).greatest
 }
 
-/// Returns the least number of bytes of a message of the type, or `None` if each message has more
-/// than fit `usize`, or the type has no message, as an enum without variants.
+/// Returns the least number of bytes of a message of the type. Returns `None` if that does not fit
+/// `usize`, or if the type has no message, as an enum without variants.
 ///
 /// No message is shorter, and one is as short.
 pub fn min_size(schema: &Schema) -> Option<usize>

@@ -37,7 +37,7 @@ pub enum Holder {
 
 impl Holder {
     /// Returns the schema of the type where `T` is the type of `inner`. Also fails with `NoBytes`
-    /// if it is a list and `T` has no bytes, and with `NumberExpected` if it is `LE` or `BE` and
+    /// if it is a list and `T` has no bytes. Fails with `NumberExpected` if it is `LE` or `BE` and
     /// `T` is no number of 16 to 128 bits.
     pub fn of_type(self, alloc: Global, inner: Schema, start: &[u8]) -> Result<Schema, ProblemAt>
         ensures made { IfOk result (λ schema. MayHold self (type_of inner)

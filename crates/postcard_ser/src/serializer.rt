@@ -20,12 +20,12 @@ use postcard_wire::{Error, Result};
 /// Writes values into a flavor.
 ///
 /// A call that begins a list, a map, a tuple, a struct or a variant of `len` parts needs exactly
-/// `len` calls for these parts after it, which write each part as its own `serialize` does; their
-/// number is not checked. The names of structs, fields and variants aren't written.
+/// `len` calls for these parts after it. Each writes its part as the part's own `serialize` does.
+/// Their number is not checked. The names of structs, fields and variants aren't written.
 ///
 /// An index is a varint of 1 to 5 bytes, and a count or a length one of 1 to 10. Any other integer
-/// is one byte if it has 8 bits, in two's complement if signed, and else a varint of at most 3, 5,
-/// 10 or 19 bytes for 16, 32, 64 or 128 bits, of the zigzag encoding if signed.
+/// is one byte if it has 8 bits, in two's complement if signed. Else it is a varint of at most 3,
+/// 5, 10 or 19 bytes for 16, 32, 64 or 128 bits, of the zigzag encoding if signed.
 ///
 /// # Errors
 ///

@@ -32,8 +32,8 @@ Mentions tokens known d e = (i : ℕ) × (d.start ≤ i) × (i < d.end) × Refer
 abbrev pub IsOwn : List Token → List Declaration → Declaration → ℕ → List ℕ → Type 0
 IsOwn tokens known d i text = ((e : Declaration) → Refers tokens known d i e → ⊥) × IsText d.kind tokens i text
 
--- The tokens of d before index i stand for this text: each for its own and a blank, and one that refers to a declaration for what all
--- tokens of that one stand for.
+-- The tokens of d before index i stand for this text. Each stands for its own and a blank, and one that refers to a declaration for what
+-- all tokens of that one stand for.
 pub data Spells (tokens : List Token) (known : List Declaration) : Declaration → ℕ → List ℕ → Type 0 where
   begun : (d : Declaration) → Spells tokens known d d.start []
   own : (d : Declaration) (i j : ℕ) (before text whole : List ℕ) → Spells tokens known d i before → IsOwn tokens known d i text
@@ -127,8 +127,8 @@ abbrev pub IsSpelledBy : List Token → List Declaration → List ℕ → List �
 IsSpelledBy tokens known name text = (d : Declaration) × Contains known d × Says name d.name
     × (IsRecursive tokens known d → ⊥) × Spells tokens known d d.end text
 
--- If the problem is one of the type with this name: no declaration has the name, the one that has it is recursive, has too many words or
--- nests too deeply, or what it stands for is no type expression.
+-- If the problem is one of the type with this name. No declaration has the name, or the one that has it is recursive, has too many words or
+-- nests too deeply, or stands for no type expression.
 abbrev pub HasProblem : List Token → List Declaration → List ℕ → FileProblem → Type 0
 HasProblem tokens known name problem =
     (problem ≡ NotDeclared → All (λ d. Says name d.name → ⊥) known)

@@ -38,8 +38,7 @@ abbrev pub is_limit : Problem → Bool
 is_limit OutOfMemory = true
 is_limit problem = false
 
--- Whether the problem is one of the type that is asked for: that none is declared so, that it has itself in it, that it is too long, or that
--- it is no type.
+-- Whether the problem is one of the type that is asked for: none is declared so, or it has itself in it, is too long, or is no type.
 abbrev pub is_of_type : FileProblem → Bool
 is_of_type NotDeclared = true
 is_of_type Recursive = true

@@ -42,13 +42,13 @@ IsAliasText tokens i text =
 abbrev pub EndsDiscriminant : List Token → ℕ → Type 0
 EndsDiscriminant tokens i = ((t : Token) × (slice_get tokens i ≡ Some t) × (t.depth ≡ 0)) ⊎ IsSign 1 (codes ",") tokens i
 
--- The token is of a variant's discriminant: an `=` within the bracket of the enum, or a token of the expression after it, whatever it
--- is, up to the end of the variant.
+-- The token is of a variant's discriminant: an `=` within the bracket of the enum, or any token of the expression after it, up to the end
+-- of the variant.
 abbrev pub IsDiscriminant : List Token → ℕ → Type 0
 IsDiscriminant tokens i = (j : ℕ) × (j ≤ i) × IsSign 1 (codes "=") tokens j × ((k : ℕ) → j ≤ k → k ≤ i → EndsDiscriminant tokens k → ⊥)
 
--- Of an enum, `{` stands for `(|`, `}` for `)`, a comma between two variants for `|`, and one behind the last, one behind the last field
--- of a variant, and the discriminant of a variant, for nothing.
+-- Of an enum, `{` stands for `(|`, `}` for `)`, and a comma between two variants for `|`. For nothing stand a comma behind the last variant
+-- or the last field of a variant, and the discriminant of a variant.
 abbrev pub IsEnumText : List Token → ℕ → List ℕ → Type 0
 IsEnumText tokens i text =
     Where (IsSign 0 (codes "{") tokens i) (text ≡ codes "(|")

@@ -1,5 +1,5 @@
-//! The tokens of a file that declarations are read from: all but those of attributes, visibilities
-//! and paths before a name, a comma before `>`, and `<` and `>` with nothing between them.
+//! The tokens of a file that declarations are read from. Passed over are attributes, visibilities,
+//! paths before a name, a comma before `>`, and `<` and `>` with nothing between them.
 
 ghost use Rattle.std.specs.Prelude.{◌≡◌, ℕ, ◌+◌, ◌<◌, false, length, Decides, IfOk, IfErr, IfSome};
 ghost use Rattle.std.specs.Prelude.{IfNone};

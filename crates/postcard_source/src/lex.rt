@@ -95,7 +95,8 @@ fn read_next<'a>(
 }
 
 /// Returns how many brackets are open around the word or sign, and after it, where `depth` are open
-/// before, or `None` if the number would leave `usize`, as when one is closed and none is open.
+/// before. Returns `None` if the number would leave `usize`, as when one is closed and none is
+/// open.
 #[tactic(auto, unfolding(crate::specs::Lexical::HasDepth))]
 fn depths(word: &[u8], depth: usize) -> Option<(usize, usize)>
     ensures { IfSome result (λ found. HasDepth word.now depth found.0 found.1) }
@@ -207,7 +208,7 @@ fn after_block_comment(text: &[u8]) -> Result<Option<&[u8]>, ProblemAt>
 }
 
 /// Returns how many comments are open after `*/`, `/*` or another byte, if `depth` are open before,
-/// and the text after it, or `None` if no byte is left, or the number would leave `usize`.
+/// and the text after it. Returns `None` if no byte is left, or the number would leave `usize`.
 fn in_comment(text: &[u8], depth: usize) -> Option<(usize, &[u8])>
     ensures step { IfSome result
         (λ found. CommentStep (depth, text.now) (found.0, found.1.now)) }

@@ -1,8 +1,8 @@
 //! Types of messages that a file declares, in Rust's own form: [`find`].
 //!
 //! A file has the declarations of a program's source, so that these may be pasted. A name stands
-//! for its declaration, wherever in the file that is: each name in the place of a type is replaced
-//! by what its declaration stands for, until a type expression is left, which is read by
+//! for its declaration, wherever in the file that is. Each name in the place of a type is replaced
+//! by what its declaration stands for. The type expression that is left is read by
 //! [`postcard_schema_text::parse`].
 //!
 //! | A declaration | What it stands for |
@@ -14,17 +14,18 @@
 //! | `type A = T;` | `(T)` |
 //!
 //! Passed over are comments, which may have others in them, attributes, lifetimes, `pub` and its
-//! scope, as `pub(crate)`, paths before a name, the comma after the last part of a tuple struct or a
-//! tuple variant, a comma before `>`, and the discriminant of a variant. That may be any expression: it
-//! ends with the first `,` outside of its brackets, or the `}` of the enum. An item ends with its first `;` or `}` outside of all brackets; one that doesn't begin with
+//! scope, as `pub(crate)`, and paths before a name. So are the comma after the last part of a tuple
+//! struct or a tuple variant, a comma before `>`, and the discriminant of a variant. That may be
+//! any expression: it ends with the first `,` outside of its brackets, or the `}` of the enum. An
+//! item ends with its first `;` or `}` outside of all brackets; one that doesn't begin with
 //! `struct`, `enum` or `type` is passed over. Types with parameters aren't supported. With its
 //! names replaced, a type has at most 65,536 words and signs, and in it names stand for one another
 //! at most 64 deep.
 //!
 //! A file is read in five steps, one module each: its tokens ([`lex`]), those that are kept
 //! ([`kept`]), the declarations ([`declaration`]), the words of a type with its names replaced
-//! ([`expand`], and for each token [`words`]), and their text, and the line and column of an error
-//! ([`place`]).
+//! ([`expand`], and for each token [`words`]), and their text. [`place`] has the line and column of
+//! an error.
 #![tactic(auto)]
 
 ghost use Rattle.std.specs.Prelude.{IfOk, IfErr, string_bytes};
@@ -58,7 +59,7 @@ use std::alloc::Global;
 ///
 /// Fails with what is wrong, one of [`FileProblem`], and the line and column where it is. The
 /// file's tokens and declarations are looked at first, to its end, and then the bodies of the
-/// declaration of the name and of those that it needs: what is wrong in another one isn't found.
+/// declaration of the name and of those that it needs. What is wrong in another one isn't found.
 pub fn find(alloc: Global, file: &str, name: &str) -> Result<Schema, FileError>
     ensures found { IfOk result (λ schema. IsTypeOf file.now name.now schema) }
     ensures problem { IfErr result (λ e. HasProblemOf file.now name.now e.problem) }

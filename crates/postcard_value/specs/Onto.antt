@@ -10,7 +10,7 @@ use Rattle.postcard_de_nodes.specs.ReadLemmas.{refusal}
 use Rattle.postcard_value.specs.Tree.{IsTree}
 use Rattle.postcard_value.specs.declared.value.Value.{Value}
 
--- A call over a source of a flavor with the ghosts F, from its state `old` to `new`: it reads a value of one of the trees, and appends it
+-- A call over a source of a flavor with the ghosts F, from its state `old` to `new`. It reads a value of one of the trees, and appends it
 -- to the values `items`, which are then `more`, or fails as reading does.
 abbrev pub ReadsOnto : {S M O : Type 0} → Ghosts S M O → (Tree → Type 0) → List Value → S → Result (Unit {0}) Error → List Value → S → Type 0
 ReadsOnto F reads items old result more new =

@@ -11,8 +11,8 @@ use postcard_schema::{Field, Path, Schema, Step, Variant};
 use postcard_wire::{Error, Result};
 use std::alloc::Global;
 
-/// A part of a message that can't be read: a value without parts, the first byte of an option, the
-/// count of a list or a map, or the index of an enum's variant.
+/// A part of a message that can't be read. It is a value without parts, the first byte of an
+/// option, the count of a list or a map, or the index of an enum's variant.
 #[derive(Debug, Drop)]
 pub struct RefusedPart<'a> {
     /// The offset in bytes of its first byte.

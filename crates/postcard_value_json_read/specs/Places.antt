@@ -35,7 +35,7 @@ HasFields ns d = All (λ n. (e : Data) × (get (string_bytes n.name) d ≡ Some 
 abbrev pub IsMissing : List (Named Schema) → Data → List PlainStep → Type 0
 IsMissing ns d path = (name : List ℕ) × (path ≡ at_name name ∷ []) × IsTakenIn ns name × ((e : Data) → get name d ≡ Some e → ⊥)
 
--- The error of an object with other members than the fields: a member is missing only if the JSON has none for that field, and one is
+-- The error of an object with other members than the fields. A member is missing only if the JSON has none for that field, and one is
 -- unknown only if there is one for each field.
 abbrev pub IsLengthError : List (Named Schema) → Data → JsonError → Type 0
 IsLengthError ns d (NotAValue path places.Present) = IsMissing ns d (plain_path path)

@@ -223,8 +223,8 @@ pub at_most_64 : (t : FloatType) (bits : ℕ) → AreNan (format_of t) bits → 
 at_most_64 F32 bits are = omega (arith, are.0)
 at_most_64 F64 bits are = omega (arith, are.0)
 
--- The number at the front of a text: the bits are those of the float that it is read as, and it is the phrase; or it is `nan`,
--- and the phrase goes on with its bits in parentheses.
+-- The number at the front of a text. It is the phrase, and the bits are those of the float that it is read as; or it is `nan`, and the
+-- phrase goes on with its bits in parentheses.
 pub Parsed : Format → ℕ → List ℕ → List ℕ → List ℕ → Type 0
 Parsed f bits word left after =
     (IsFloatWord f bits word × (left ≡ after))

@@ -52,8 +52,8 @@ FollowsValue text = GoesOnBy follows_type text
 abbrev pub ReadsAs : {V : Type 0} → (V → Type 0) → Result V Stop → List ℕ → List ℕ → Type 0
 ReadsAs P r left after = MatchResult r (λ v. P v × (left ≡ after)) (λ stop. stop ≡ Memory)
 
--- Each front of the text that spells a tree of R is read as that tree if what follows it may follow a value, and just that front
--- is taken; or memory is lacking.
+-- Each front of the text that spells a tree of R is read as that tree if what follows it may follow a value. Just that front is taken, or
+-- memory is lacking.
 abbrev pub Accepts : (Tree → Type 0) → Speller → List ℕ → Result Value Stop → List ℕ → Type 0
 Accepts R S text r left = (t : Tree) (after : List ℕ) → R t → TakesPhrase (S t) text after → FollowsValue after → ReadsAs (IsTree t) r left after
 

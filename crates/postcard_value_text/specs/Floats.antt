@@ -20,8 +20,8 @@ format_of F64 = binary64
 abbrev pub is_of_float : ℕ → Bool
 is_of_float b = is_of_word b || (nat_eq b 43 || (nat_eq b 45 || nat_eq b 46))
 
--- The text is a number in decimal, perhaps with a point and an exponent, or `inf`, `infinity` or `nan`, as std's `parse` reads
--- them, and the bits are those of the float nearest to it.
+-- The text is a number in decimal, perhaps with a point and an exponent, or `inf`, `infinity` or `nan`, as std's `parse` reads them. The
+-- bits are those of the float nearest to it.
 abbrev pub IsFloatWord : Format → ℕ → List ℕ → Type 0
 IsFloatWord f bits text = (x : Float) × (parse_float f text ≡ Some x) × (bits ≡ to_bits f x)
 

@@ -239,8 +239,8 @@ pub fn is_unit(schema: &Schema) -> bool
     }
 }
 
-/// Returns whether the text of such values has brackets of its own, so that none are added to it
-/// after the name of a variant: whether the type is a tuple or a struct.
+/// Returns whether the type is a tuple or a struct. The text of such values has brackets of its
+/// own, so that none are added to it after the name of a variant.
 pub fn has_brackets(schema: &Schema) -> bool
     ensures { result ≡ has_brackets (layout_of schema.now) }
 {

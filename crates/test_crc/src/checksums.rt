@@ -46,7 +46,7 @@ fn another_initial_value(rt: HostRuntime) {
     assert!(rt; got == 0x29b1);
 }
 
-/// The checksum 31c3 of the text comes lowest byte first, and CRC-16/XMODEM is not reflected: a
+/// The checksum 31c3 of the text comes lowest byte first, and CRC-16/XMODEM is not reflected. So a
 /// change within 13 bits in a row, across the end of the message, is another message with its own
 /// checksum.
 #[test]

@@ -153,8 +153,8 @@ fn answers(rt: &(impl Abort + AllocGlobal), all: &[Fed]) -> Vec<(&'static str, O
     answers
 }
 
-/// Asserts that a stream of an oversized frame and one that has room has an answer to each if it is
-/// cut as the bits say, and that no bytes are left after the last.
+/// Asserts that a stream of an oversized frame and one that has room, cut as the bits say, has an
+/// answer to each. No bytes are left after the last.
 fn is_cut(rt: &(impl Abort + AllocGlobal), cuts: u32) {
     let all = fed_in_pieces(rt, &[5, 1, 1, 1, 1, 0, 2, 7, 0], cuts);
     let expected = [("over full", None), ("value", Some(7))];

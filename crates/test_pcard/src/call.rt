@@ -72,8 +72,8 @@ fn without<'a>(text: &'a str, front: &str) -> &'a str {
     text.strip_prefix(front).unwrap_or(text)
 }
 
-/// Returns what a call of these words prints, as it is written in a session: the exit status after a
-/// `?`, unless it is 0, what is printed to the output, and what is printed to standard error.
+/// Returns what a call of these words prints, as it is written in a session. First comes the exit
+/// status after a `?`, unless it is 0, then the output, and then standard error.
 fn output_of(rt: &HostRuntime, text: &str) -> Result<String, CallError> {
     let alloc = rt.alloc();
     let (mut words, digits) = words_of(alloc, text)?;

@@ -1,5 +1,6 @@
-//! Tests of the greatest sizes of types that have no rows in `test_vectors`: those of a user, those
-//! that can only be written, long lists, and types whose greatest size doesn't fit 64 bits.
+//! Tests of the greatest sizes of types that have no rows in `test_vectors`. These are types of a
+//! user, those that can only be written, long lists, and types whose greatest size doesn't fit 64
+//! bits.
 
 ghost use Rattle.test_postcard.specs.declared.sizes.Choice.{Choice};
 
@@ -95,7 +96,7 @@ impl MaxSizeRepr for Choice {
 }
 
 /// Asserts that the greatest size of the type is that of the buffer, and that the value has this
-/// size: it fits in the buffer, and not in one that is a byte shorter.
+/// size. It fits in the buffer, and not in one that is a byte shorter.
 fn assert_takes<T: Serialize + MaxSize>(rt: &impl Abort, value: &T, buffer: &mut [u8]) {
     let size = buffer.len();
     same(rt, T::postcard_max_size(), Some(size));

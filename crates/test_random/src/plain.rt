@@ -99,9 +99,9 @@ impl Choices for Plain<'_> {
     }
 }
 
-/// Returns the data of a frame, given without its zero, or `None` if it is no COBS frame: a code
-/// byte, as many bytes as it says less one, and a zero in the data if a group follows and the code
-/// byte isn't 255.
+/// Returns the data of a frame, given without its zero, or `None` if it is no COBS frame. A group
+/// is a code byte, and as many bytes as it says less one. A zero in the data follows if the code
+/// byte isn't 255 and another group comes.
 pub(crate) fn data_of(alloc: Global, frame: &[u8]) -> Option<Vec<u8>> {
     let mut data = Vec::new(alloc);
     let mut left = frame;

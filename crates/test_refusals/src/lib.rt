@@ -2,9 +2,9 @@
 //! short, readers and writers that fail, and each allocation in turn.
 //!
 //! Such a call fails with a named error. After a failed allocation the same call, made again, has
-//! the right result: once the tests are built, `checks/memory` refuses the Nth allocation of each
-//! test whose name has `refused` in it, for each N. Before any proof,
-//! `rt try --test --fail-alloc N` does so.
+//! the right result. Once the tests are built, `checks/memory` refuses the Nth allocation of each
+//! test whose name has `refused` in it, for each N. Before any proof, `rt try --test --fail-alloc
+//! N` does so.
 #![tactic(auto)]
 
 #[cfg(test)]

@@ -4,8 +4,9 @@ use crate::helpers::check_texts;
 use crate::vectors::check_row;
 use std::process::Abort;
 
-/// Type expressions, each with the text of a value as it is printed, and the value's encoding: powers
-/// of two, zeros, the least and the greatest numbers, infinities, and NaNs with each kind of bits.
+/// Type expressions, each with the text of a value as it is printed, and the value's encoding. The
+/// values are powers of two, zeros, the least and the greatest numbers, infinities, and NaNs with
+/// each kind of bits.
 const VECTORS: [(&str, &str, &[u8]); 54] = [
     ("f32", "-32.00586", &[0x00, 0x06, 0x00, 0xC2]),
     ("f32", "1.5", &[0x00, 0x00, 0xC0, 0x3F]),

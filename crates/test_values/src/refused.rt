@@ -11,9 +11,9 @@ const GREAT_COUNT: [u8; 11] = [
     0xFF, 0xFF, 0xFF, 0xFF, 0xFF, 0xFF, 0xFF, 0xFF, 0xFF, 0x01, 1,
 ];
 
-/// Type expressions, each with a message that is refused, the error, and its place: the offset of
-/// the leaf, the count, the index or the option's byte that can't be read, and the path of that
-/// part. A great count doesn't make reading run out of memory, since memory is requested only for
+/// Type expressions, each with a message that is refused, the error, and its place: an offset and a
+/// path. They are those of the leaf, the count, the index or the option's byte that can't be read.
+/// A great count doesn't make reading run out of memory, since memory is requested only for
 /// elements that were read.
 const REFUSED: [(&str, &[u8], Error, usize, &str); 19] = [
     ("u16", &[0x80], Error::DeserializeUnexpectedEnd, 0, ""),

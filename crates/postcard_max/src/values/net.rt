@@ -1,5 +1,5 @@
-//! The greatest sizes of addresses of the Internet: 4 or 16 bytes, 3 more for the port of a socket,
-//! and 1 more for the index where an address is of either version.
+//! The greatest sizes of addresses of the Internet: 4 or 16 bytes, and 3 more for the port of a
+//! socket. An address of either version has 1 more for the index.
 
 use crate::max_size::{MaxSize, MaxSizeRepr};
 use std::net::{IpAddr, Ipv4Addr, Ipv6Addr, SocketAddr, SocketAddrV4, SocketAddrV6};

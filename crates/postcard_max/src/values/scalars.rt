@@ -1,6 +1,7 @@
-//! The greatest sizes of `bool`, 1 byte; of characters, 5 bytes: a count, and at most four bytes
-//! of UTF-8; and of `usize` and `isize`, 10 bytes, as of numbers of 64 bits. In each `in_forms` of
-//! a number or a character the value is read for the prover, which learns its range from that.
+//! The greatest sizes of `bool`, 1 byte, of characters, 5 bytes, and of `usize` and `isize`, 10
+//! bytes, as of numbers of 64 bits. A character is a count and at most four bytes of UTF-8. In each
+//! `in_forms` of a number or a character the value is read for the prover, which learns its range
+//! from that.
 
 ghost use Rattle.postcard_max.specs.{boolean_lawful, char_lawful, exactly, inl, inr, int_lawful};
 ghost use Rattle.postcard_max.specs.{num_lawful, refl};

@@ -1,5 +1,6 @@
-//! Sets and maps that find a key by its hash: the number of the keys or entries, a varint, and then
-//! these in the order in which the set or the map keeps them, a value after its key.
+//! Sets and maps that find a key by its hash. First comes the number of the keys or entries, a
+//! varint. Then these come in the order in which the set or the map keeps them, a value after its
+//! key.
 
 ghost use Rattle.std.specs.Prelude.{Any, map, OnOk};
 ghost use Rattle.postcard_ser.specs.{AllFit, Wrote, canonical_all, pair, trees};

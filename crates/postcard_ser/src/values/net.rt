@@ -1,5 +1,5 @@
 //! Addresses of the Internet: the 4 or 16 bytes of an address in network order, the highest first,
-//! with no count before them, and then the port of a socket, a number of 16 bits. Where an address
+//! with no count before them. The port of a socket follows, a number of 16 bits. Where an address
 //! is of either version, `V4` has the index 0 and `V6` the index 1.
 
 use crate::cases::serialize_variant;
