@@ -23,12 +23,10 @@ where
 {
     let count = numbers::count(flavor)?;
     let bytes = flavor.try_take_n(count)?;
-    match str::from_utf8(bytes) {
-        // Made of `bytes`, which are in registers: the text that was returned is in memory, and
-        // copying it takes as long as all the rest for a short one.
-        Ok(_) => Ok(unsafe { str::from_utf8_unchecked(bytes) }),
-        Err(_) => Err(Error::DeserializeBadUtf8),
+    if !wire_text::is_utf8(bytes) {
+        return Err(Error::DeserializeBadUtf8);
     }
+    Ok(unsafe { str::from_utf8_unchecked(bytes) })
 }
 
 /// Reads a text into a new `String`, which is allocated once the bytes were taken and found to be
@@ -38,12 +36,12 @@ pub fn text_copy<F: Flavor>(alloc: Global, flavor: &mut F) -> Result<String>
 {
     let count = numbers::count(flavor)?;
     let lent = flavor.try_take_n_temp(count)?;
-    match str::from_utf8(lent) {
-        Ok(text) => match String::from_str(alloc, text) {
-            Ok(copy) => Ok(copy),
-            Err(_) => Err(Error::OutOfMemory),
-        },
-        Err(_) => Err(Error::DeserializeBadUtf8),
+    if !wire_text::is_utf8(lent) {
+        return Err(Error::DeserializeBadUtf8);
+    }
+    match String::from_str(alloc, unsafe { str::from_utf8_unchecked(lent) }) {
+        Ok(copy) => Ok(copy),
+        Err(_) => Err(Error::OutOfMemory),
     }
 }
 
@@ -56,12 +54,12 @@ pub fn short_text<F: Flavor, const CAP: usize>(flavor: &mut F) -> Result<ArraySt
 {
     let count = numbers::count(flavor)?;
     let bytes = flavor.try_take_n_temp(count)?;
-    match str::from_utf8(bytes) {
-        Ok(text) => match ArrayString::from(text) {
-            Ok(short) => Ok(short),
-            Err(_) => Err(Error::SerdeDeCustom),
-        },
-        Err(_) => Err(Error::DeserializeBadUtf8),
+    if !wire_text::is_utf8(bytes) {
+        return Err(Error::DeserializeBadUtf8);
+    }
+    match ArrayString::from(unsafe { str::from_utf8_unchecked(bytes) }) {
+        Ok(short) => Ok(short),
+        Err(_) => Err(Error::SerdeDeCustom),
     }
 }
 

@@ -35,45 +35,42 @@ returns-in_err-bytes g c =
       refused = search rules;
     }
 
-pub returns-in-Ok-from : goal.returns-in-Ok-from
-returns-in-Ok-from g c =
+pub returns-then-not-is_utf8 : goal.returns-then-not-is_utf8
+returns-then-not-is_utf8 g c =
+    let laws = g.F.Flavor.lawful in
+    let lent = c.try_take_n_temp.follows.holds-at-none in
+    let gives = rw c.in_ok-bytes.was at lent.0 in
+    let none : IsUtf8 c.in_ok-bytes.bytes.now → ⊥ =
+    λ u. let is = c.is_utf8.ensures.1 u in let not = c.if-not-is_utf8.true in cc (is, not) in
+    record {
+      reads =
+          refused_too (short_text_inside g.row.CAP) (λ e h. h)
+          (text_refused laws {V = ℕ} {value = λ t v. ⊥} {G = never}
+          (text_bad laws c.in_ok-count.ensures.reads c.in_ok-bytes.ensures.length gives none)
+          (laws.joins _ _ _ c.in_ok-count.ensures.reads.leaves lent.1));
+      refused =
+          widened (λ p n w. w) (λ p b. inl b)
+          (text_bad laws c.in_ok-count.ensures.reads c.in_ok-bytes.ensures.length gives {G = ⊥} none);
+    }
+
+pub returns-in-Ok : goal.returns-in-Ok
+returns-in-Ok g c =
     let laws = g.F.Flavor.lawful in
     let lent = c.try_take_n_temp.follows.holds-at-none in
     let gives = rw c.in_ok-bytes.was at lent.0 in
     let u = c.in_ok-bytes.bytes.now in
-    let fits : length c.in-Ok.text.now ≤ g.row.CAP = search rules in
-    let few : length u ≤ g.row.CAP = rw c.in-Ok.ensures.cases.0 at fits in
-    let utf8 : IsUtf8 u = c.in-Ok.ensures.cases.1 in
+    let fits : length c.from_utf8_unchecked.result.now ≤ g.row.CAP = search rules in
+    let few : length u ≤ g.row.CAP = rw c.from_utf8_unchecked.ensures at fits in
+    let utf8 : IsUtf8 u = c.is_utf8.ensures.0 c.if-not-is_utf8.false in
     let low : length u < 2 ^ 64 =
     rw c.in_ok-bytes.ensures.length (number_below laws c.in_ok-count.ensures.reads) in
-    let e : c.in-Ok-from.short.bytes ≡ u = c.in-Ok-from.ensures.ok ∙ c.in-Ok.ensures.cases.0 in
+    let e : c.in-Ok.short.bytes ≡ u = c.in-Ok.ensures.ok ∙ c.from_utf8_unchecked.ensures in
     record {
       reads =
-          seen_as (short_text_inside g.row.CAP) (short_fits g.row.CAP u c.in-Ok-from.short.bytes few utf8
-          low e)
+          seen_as (short_text_inside g.row.CAP) (short_fits g.row.CAP u c.in-Ok.short.bytes few utf8 low e)
           (text_read laws c.in_ok-count.ensures.reads c.in_ok-bytes.ensures.length gives {G = never}
           (λ (v : List ℕ). v) u refl utf8 lent.1);
       refused = tt;
-    }
-
-pub returns-in-Err-from : goal.returns-in-Err-from
-returns-in-Err-from g c =
-    let laws = g.F.Flavor.lawful in
-    let lent = c.try_take_n_temp.follows.holds-at-none in
-    let gives = rw c.in_ok-bytes.was at lent.0 in
-    let u = c.in_ok-bytes.bytes.now in
-    let none : length c.in-Ok.text.now ≤ g.row.CAP → ⊥ = search rules in
-    let none_of_u : length u ≤ g.row.CAP → ⊥ = rw c.in-Ok.ensures.cases.0 at none in
-    let many : g.row.CAP < length c.in-Ok.text.now = search rules in
-    let utf8 : IsUtf8 u = c.in-Ok.ensures.cases.1 in
-    record {
-      reads =
-          unfit tt (short_text_inside g.row.CAP) (long_unfit g.row.CAP u none_of_u)
-          (text_read laws c.in_ok-count.ensures.reads c.in_ok-bytes.ensures.length gives {G = never}
-          (λ (v : List ℕ). v) u refl utf8 lent.1);
-      refused =
-          text_long laws c.in_ok-count.ensures.reads c.in_ok-bytes.ensures.length gives utf8
-          (rw c.in-Ok.ensures.cases.0 at many);
     }
 
 pub returns-in-Err : goal.returns-in-Err
@@ -81,14 +78,18 @@ returns-in-Err g c =
     let laws = g.F.Flavor.lawful in
     let lent = c.try_take_n_temp.follows.holds-at-none in
     let gives = rw c.in_ok-bytes.was at lent.0 in
+    let u = c.in_ok-bytes.bytes.now in
+    let same = c.from_utf8_unchecked.ensures in
+    let none : length c.from_utf8_unchecked.result.now ≤ g.row.CAP → ⊥ = search rules in
+    let none_of_u : length u ≤ g.row.CAP → ⊥ = rw same at none in
+    let many : g.row.CAP < length c.from_utf8_unchecked.result.now = search rules in
+    let utf8 : IsUtf8 u = c.is_utf8.ensures.0 c.if-not-is_utf8.false in
     record {
       reads =
-          refused_too (short_text_inside g.row.CAP) (λ e h. h)
-          (text_refused laws {V = ℕ} {value = λ t v. ⊥} {G = never}
-          (text_bad laws c.in_ok-count.ensures.reads c.in_ok-bytes.ensures.length gives
-          c.in-Err.ensures.cases.0) (laws.joins _ _ _ c.in_ok-count.ensures.reads.leaves lent.1));
+          unfit tt (short_text_inside g.row.CAP) (long_unfit g.row.CAP u none_of_u)
+          (text_read laws c.in_ok-count.ensures.reads c.in_ok-bytes.ensures.length gives {G = never}
+          (λ (v : List ℕ). v) u refl utf8 lent.1);
       refused =
-          widened (λ p n w. w) (λ p b. inl b)
-          (text_bad laws c.in_ok-count.ensures.reads c.in_ok-bytes.ensures.length gives {G = ⊥}
-          c.in-Err.ensures.cases.0);
+          text_long laws c.in_ok-count.ensures.reads c.in_ok-bytes.ensures.length gives utf8
+          (rw same at many);
     }

@@ -18,20 +18,22 @@ returns-in_err-bytes g c =
     (λ a. let bad = c.in_err-bytes.ensures.accepts a in cc) c.in_err-bytes.ensures.refuses_by_unexpected_end)
     (laws.joins _ _ _ c.in_ok-count.ensures.reads.leaves c.in_err-bytes.ensures.leaves)
 
-pub returns-in-Ok : goal.returns-in-Ok
-returns-in-Ok g c =
+pub returns-then-not-is_utf8 : goal.returns-then-not-is_utf8
+returns-then-not-is_utf8 g c =
+    let laws = g.F.Flavor.lawful in
+    node_refused g.F.Flavor (text_excludes never)
+    (text_bad laws c.in_ok-count.ensures.reads c.in_ok-bytes.ensures.length
+    c.in_ok-bytes.ensures.gives
+    (λ u. let is = c.is_utf8.ensures.1 u in let not = c.if-not-is_utf8.true in cc (is, not)))
+    (laws.joins _ _ _ c.in_ok-count.ensures.reads.leaves c.in_ok-bytes.ensures.leaves)
+
+pub returns : goal.returns
+returns g c =
     record {
       reads =
           text_read g.F.Flavor.lawful c.in_ok-count.ensures.reads c.in_ok-bytes.ensures.length
           c.in_ok-bytes.ensures.gives (λ (b : Bor (List ℕ)). b.now) c.from_utf8_unchecked.result
-          c.from_utf8_unchecked.ensures c.in-Ok.ensures.cases.1 c.in_ok-bytes.ensures.leaves;
+          c.from_utf8_unchecked.ensures (c.is_utf8.ensures.0 c.if-not-is_utf8.false)
+          c.in_ok-bytes.ensures.leaves;
       refused = tt;
     }
-
-pub returns-in-Err : goal.returns-in-Err
-returns-in-Err g c =
-    let laws = g.F.Flavor.lawful in
-    node_refused g.F.Flavor (text_excludes never)
-    (text_bad laws c.in_ok-count.ensures.reads c.in_ok-bytes.ensures.length
-    c.in_ok-bytes.ensures.gives c.in-Err.ensures.cases.0)
-    (laws.joins _ _ _ c.in_ok-count.ensures.reads.leaves c.in_ok-bytes.ensures.leaves)

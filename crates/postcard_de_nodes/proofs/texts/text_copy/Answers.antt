@@ -19,26 +19,28 @@ returns-in_err-lent g c =
     (λ a. let bad = c.in_err-lent.ensures.accepts a in cc) c.in_err-lent.ensures.refuses_by_unexpected_end)
     (laws.joins _ _ _ c.in_ok-count.ensures.reads.leaves lent.1)
 
-pub returns-in-Ok-from_str : goal.returns-in-Ok-from_str
-returns-in-Ok-from_str g c =
+pub returns-then-not-is_utf8 : goal.returns-then-not-is_utf8
+returns-then-not-is_utf8 g c =
+    let laws = g.F.Flavor.lawful in
+    let lent = c.try_take_n_temp.follows.holds-at-none in
+    let gives = rw c.in_ok-lent.was at lent.0 in
+    node_refused g.F.Flavor (text_excludes memory)
+    (text_bad laws c.in_ok-count.ensures.reads c.in_ok-lent.ensures.length gives
+    (λ u. let is = c.is_utf8.ensures.1 u in let not = c.if-not-is_utf8.true in cc (is, not)))
+    (laws.joins _ _ _ c.in_ok-count.ensures.reads.leaves lent.1)
+
+pub returns-in-Ok : goal.returns-in-Ok
+returns-in-Ok g c =
     let lent = c.try_take_n_temp.follows.holds-at-none in
     let gives = rw c.in_ok-lent.was at lent.0 in
     record {
       reads =
           text_read g.F.Flavor.lawful c.in_ok-count.ensures.reads c.in_ok-lent.ensures.length gives
-          (λ (b : String Global). string_bytes b) c.in-Ok-from_str.copy
-          (c.in-Ok-from_str.ensures.ok ∙ c.in-Ok.ensures.cases.0) c.in-Ok.ensures.cases.1 lent.1;
+          (λ (b : String Global). string_bytes b) c.in-Ok.copy
+          (c.in-Ok.ensures.ok ∙ c.from_utf8_unchecked.ensures)
+          (c.is_utf8.ensures.0 c.if-not-is_utf8.false) lent.1;
       refused = tt;
     }
-
-pub returns-in-Err-from_str : goal.returns-in-Err-from_str
-returns-in-Err-from_str g c =
-    let laws = g.F.Flavor.lawful in
-    let lent = c.try_take_n_temp.follows.holds-at-none in
-    let gives = rw c.in_ok-lent.was at lent.0 in
-    node_refused g.F.Flavor (text_excludes memory)
-    (text_full laws c.in_ok-count.ensures.reads c.in_ok-lent.ensures.length gives
-    c.in-Ok.ensures.cases.1 tt) (laws.joins _ _ _ c.in_ok-count.ensures.reads.leaves lent.1)
 
 pub returns-in-Err : goal.returns-in-Err
 returns-in-Err g c =
@@ -46,5 +48,6 @@ returns-in-Err g c =
     let lent = c.try_take_n_temp.follows.holds-at-none in
     let gives = rw c.in_ok-lent.was at lent.0 in
     node_refused g.F.Flavor (text_excludes memory)
-    (text_bad laws c.in_ok-count.ensures.reads c.in_ok-lent.ensures.length gives
-    c.in-Err.ensures.cases.0) (laws.joins _ _ _ c.in_ok-count.ensures.reads.leaves lent.1)
+    (text_full laws c.in_ok-count.ensures.reads c.in_ok-lent.ensures.length gives
+    (c.is_utf8.ensures.0 c.if-not-is_utf8.false) tt)
+    (laws.joins _ _ _ c.in_ok-count.ensures.reads.leaves lent.1)
