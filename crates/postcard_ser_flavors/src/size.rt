@@ -6,7 +6,7 @@ ghost use Rattle.postcard_ser_flavors.specs.{AlwaysFinalized, CanCount, Counts, 
 ghost use Rattle.postcard_ser_flavors.specs.{Rises, count_lawful, digits};
 
 use crate::flavor::Flavor;
-use postcard_wire::varint::{VARINT_MAX_64, varint_u64};
+use postcard_wire::varint::len_u64;
 use postcard_wire::{Error, Result};
 use std::marker::Model;
 
@@ -37,6 +37,7 @@ impl Default for Size {
 }
 
 impl Size {
+    #[inline(always)]
     fn add(&mut self, len: usize) -> Result<()>
         ensures counts { OnOk result (self.new ≡ self.old + len) }
         ensures fits_iff { IsOk result ↔ (self.old + len < 2 ^ 64) }
@@ -84,8 +85,7 @@ impl Flavor for Size {
     fn try_varint(&mut self, n: u64) -> Result<()>
         ensures { PushedIfRoom ⟦<Self as Flavor>⟧ self.old (digits n) result self.new }
     {
-        let mut out = [0; VARINT_MAX_64];
-        self.try_extend(varint_u64(n, &mut out))
+        self.add(len_u64(n))
     }
 
     fn finalize(self) -> Result<usize>

@@ -1,6 +1,7 @@
 -- The lemmas, by subject.
 pub mod Numbers
 pub mod Writing
+pub mod Lengths
 pub mod Pushed
 pub mod Refused
 pub mod Ranged
