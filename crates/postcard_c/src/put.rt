@@ -13,6 +13,7 @@ ghost use Rattle.postcard_c.specs.{w8};
 use crate::wide::joined;
 use crate::writer::{Writer, append, put_counted, put_number, refuse};
 use postcard_c_status::{BAD_CHAR, BAD_UTF8};
+use postcard_wire::text::is_utf8;
 use postcard_wire::varint::{VARINT_MAX_128, varint_u128};
 use postcard_wire::zigzag::{zig_zag_i16, zig_zag_i32, zig_zag_i64, zig_zag_i128};
 
@@ -138,10 +139,10 @@ pub extern "C" fn postcard_put_str(writer: &mut Writer<'_>, text: &[u8]) -> u32
     ensures written { IsUtf8 text.now → Puts (canonical (Text text.now)) writer.old writer.new result }
     ensures refused { ¬ IsUtf8 text.now → Refuses 8 writer.old writer.new result }
 {
-    match str::from_utf8(text) {
-        Ok(_) => put_counted(writer, text.len() as u64, text),
-        Err(_) => refuse(writer, BAD_UTF8),
+    if !is_utf8(text) {
+        return refuse(writer, BAD_UTF8);
     }
+    put_counted(writer, text.len() as u64, text)
 }
 
 /// Appends a byte string, a list of `u8`: its length as a varint, and its bytes.

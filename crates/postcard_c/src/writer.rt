@@ -25,6 +25,8 @@ pub struct Writer<'a> {
 /// Appends the bytes of `head` and then those of `tail`, all or none of them. Fails with
 /// `SerializeBufferFull` if and only if both have no room together, and as before if the writer has
 /// failed before.
+// Inlined, so that the call for a byte stores it without a copy of unknown length.
+#[inline(always)]
 pub(crate) fn append(writer: &mut Writer<'_>, head: &[u8], tail: &[u8]) -> u32
     ensures { Puts (head.now ++ tail.now) writer.old writer.new result }
 {
@@ -44,6 +46,7 @@ pub(crate) fn append(writer: &mut Writer<'_>, head: &[u8], tail: &[u8]) -> u32
     0
 }
 
+#[inline(always)]
 #[tactic(auto, using(crate::proofs::Places::both_written))]
 fn write_at(buffer: &mut [u8], place: usize, head: &[u8], tail: &[u8])
     requires { place + length (head.now ++ tail.now) ≤ length buffer.old }
@@ -53,6 +56,7 @@ fn write_at(buffer: &mut [u8], place: usize, head: &[u8], tail: &[u8])
     copy_at(buffer, place + head.len(), tail);
 }
 
+#[inline(always)]
 fn copy_at(buffer: &mut [u8], place: usize, bytes: &[u8])
     requires { place + length bytes.now ≤ length buffer.old }
     ensures { WrittenAt place bytes.now buffer.old buffer.new }
