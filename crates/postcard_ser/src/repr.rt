@@ -24,6 +24,7 @@ pub trait SerializeRepr: Repr {
 }
 
 impl<T: SerializeRepr> Serialize for T {
+    #[inline(always)]
     fn serialize<F: Flavor>(&self, serializer: &mut Serializer<F>) -> Result<()> {
         self.serialize_repr(serializer)
     }

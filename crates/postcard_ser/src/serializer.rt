@@ -48,18 +48,21 @@ fn refusal(_of_flavor: Error) -> Error
 }
 
 impl<F: Flavor> Serializer<F> {
+    #[inline(always)]
     fn push(&mut self, byte: u8) -> Result<()>
         ensures { SerializesBytes F.Flavor (byte ∷ []) self.old result self.new }
     {
         self.output.try_push(byte).map_err(refusal)
     }
 
+    #[inline(always)]
     pub(crate) fn extend(&mut self, piece: &[u8]) -> Result<()>
         ensures { SerializesBytes F.Flavor piece.now self.old result self.new }
     {
         self.output.try_extend(piece).map_err(refusal)
     }
 
+    #[inline(always)]
     fn varint(&mut self, n: u64) -> Result<()>
         ensures { SerializesBytes F.Flavor (digits n) self.old result self.new }
     {
