@@ -6,6 +6,16 @@ use Rattle.std.proofs.Math.Seq.{take-append-add, drop-append-add}
 use Rattle.postcard_wire.specs.Number.{digits}
 use Rattle.postcard_wire.proofs.Writing.{few_64}
 
+-- If the first k bytes of a part from place `pos` on are written as d, the front is the bytes before and d.
+pub written_after : (pos k len : ℕ) (all out d : List ℕ) → pos ≤ length all → k ≤ length out → take k out ≡ d →
+    take (pos + k) (take pos all ++ (out ++ drop len (drop pos all))) ≡ take pos all ++ d
+written_after pos k len all out d within few written =
+    let long : length (take pos all) ≡ pos = length-take-le pos all within in
+    let post = drop len (drop pos all) in
+    let e : take (length (take pos all) + k) (take pos all ++ (out ++ post)) ≡ take pos all ++ take k (out ++ post) = take-append-add (take pos all) (out ++ post) k in
+    let f : take k (out ++ post) ≡ take k out = take-append-le k out post few in
+    (rw long at e) ∙ cc
+
 -- The free bytes are all bytes from their place on.
 all_free : (pos : ℕ) (all : List ℕ) → take (length all - pos) (drop pos all) ≡ drop pos all
 all_free pos all = take_all (length all - pos) (drop pos all) (omega (arith, length-drop pos all))
@@ -25,11 +35,7 @@ module _ (pos k : ℕ) (all out buffer d : List ℕ) (count : ℕ) (within : pos
 
   -- The bytes then held are those held before, followed by d.
   pub held_here : take (pos + k) after ≡ take count buffer ++ d
-  held_here =
-      let post = drop (length all - pos) (drop pos all) in
-      let e : take (length (take pos all) + k) (take pos all ++ (out ++ post)) ≡ take pos all ++ take k (out ++ post) = take-append-add (take pos all) (out ++ post) k in
-      let f : take k (out ++ post) ≡ take k out = take-append-le k out post few in
-      (rw long at e) ∙ cc
+  held_here = written_after pos k (length all - pos) all out d within few written ∙ cc
 
   -- The bytes after those written are unchanged.
   pub behind_here : drop k out ≡ drop k (take (length all - pos) (drop pos all)) → drop (pos + k) after ≡ drop (pos + k) buffer
