@@ -6,6 +6,7 @@ ghost use Rattle.postcard_ser_flavors.specs.{NoRoom, PushedOrFull, all_known, di
 ghost use Rattle.postcard_ser_flavors.specs.{writer_lawful};
 
 use crate::flavor::Flavor;
+use crate::short::copy;
 use postcard_wire::varint::{VARINT_MAX_64, write_u64};
 use postcard_wire::{Error, Result};
 use std::io::Write;
@@ -88,7 +89,7 @@ impl<T: Write + Drop> WriteFlavor<T> {
     {
         let start = self.count;
         let end = start + bytes.len();
-        self.block[start..end].copy_from_slice(bytes);
+        copy(&mut self.block[start..end], bytes);
         self.count = end;
     }
 

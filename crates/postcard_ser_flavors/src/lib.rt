@@ -22,6 +22,7 @@ pub mod extend;
 pub mod flavor;
 pub mod hvec;
 pub mod io;
+mod short;
 pub mod size;
 pub mod slice;
 pub mod storage;
