@@ -1,10 +1,9 @@
 -- The digits of a number written over the front of the free bytes.
-use Rattle.std.proofs.Common.{◌≡◌, ℕ, ◌+◌, ◌-◌, ◌<◌, ◌≤◌, ◌^◌, List, [], ◌++◌, length, take, drop, sym, ap, ◌∙◌, append-nil, arith}
+use Rattle.std.proofs.Common.{◌≡◌, ℕ, ◌+◌, ◌-◌, ◌≤◌, List, [], ◌++◌, length, take, drop, sym, ap, ◌∙◌, append-nil, arith}
 use Rattle.std.proofs.lemmas.List.{length-take-le, length-drop, take_all, take-append-le, drop-append-le, drop-drop}
 use Rattle.std.proofs.Math.ListN.{drop_of_length-le}
 use Rattle.std.proofs.Math.Seq.{take-append-add, drop-append-add}
 use Rattle.postcard_wire.specs.Number.{digits}
-use Rattle.postcard_wire.proofs.Writing.{few_64}
 
 -- If the first k bytes of a part from place `pos` on are written as d, the front is the bytes before and d.
 pub written_after : (pos k len : ℕ) (all out d : List ℕ) → pos ≤ length all → k ≤ length out → take k out ≡ d →
@@ -20,9 +19,9 @@ written_after pos k len all out d within few written =
 all_free : (pos : ℕ) (all : List ℕ) → take (length all - pos) (drop pos all) ≡ drop pos all
 all_free pos all = take_all (length all - pos) (drop pos all) (omega (arith, length-drop pos all))
 
--- If ten bytes are free, the digits of any number of 64 bits fit.
-pub fits_here : (n pos : ℕ) (all : List ℕ) → n < 2 ^ 64 → 10 ≤ length all - pos → length (digits n) ≤ length (take (length all - pos) (drop pos all))
-fits_here n pos all h r = rw (all_free pos all) (omega (arith, length-drop pos all, few_64 n h))
+-- If as many bytes are free as a number has digits, these fit.
+pub fits_here : (n pos : ℕ) (all : List ℕ) → length (digits n) ≤ length all - pos → length (digits n) ≤ length (take (length all - pos) (drop pos all))
+fits_here n pos all r = rw (all_free pos all) (omega (arith, length-drop pos all, r))
 
 -- Here k bytes, which are d, are written over the front of the free bytes, and count bytes of the
 -- buffer were held.

@@ -8,7 +8,7 @@ ghost use Rattle.postcard_ser_flavors.specs.Slice.{Appended};
 use crate::flavor::Flavor;
 use crate::short::copy;
 use postcard_memory::{Life, Memory};
-use postcard_wire::varint::{VARINT_MAX_64, varint_u64, write_u64};
+use postcard_wire::varint::{len_u64, write_u64};
 use postcard_wire::{Error, Result};
 use std::marker::Model;
 
@@ -106,7 +106,7 @@ impl<'a> Flavor for Slice<'a> {
         Ok(())
     }
 
-    #[inline]
+    #[inline(always)]
     fn try_extend(&mut self, bytes: &[u8]) -> Result<()>
         ensures { PushedToSlice ⟦<Self as Flavor>⟧ self.old bytes.now result self.new }
     {
@@ -121,14 +121,14 @@ impl<'a> Flavor for Slice<'a> {
         Ok(())
     }
 
-    /// Writes the varint in place if 10 bytes are free.
-    #[inline]
+    /// Writes the varint in place.
+    #[inline(always)]
     fn try_varint(&mut self, n: u64) -> Result<()>
         ensures { PushedToSlice ⟦<Self as Flavor>⟧ self.old (digits n) result self.new }
     {
-        if self.len - self.position < VARINT_MAX_64 {
-            let mut out = [0; VARINT_MAX_64];
-            return self.try_extend(varint_u64(n, &mut out));
+        let size = len_u64(n);
+        if self.len - self.position < size {
+            return Err(Error::SerializeBufferFull);
         }
         let len = self.len;
         let start = self.position;

@@ -6,7 +6,7 @@ use Rattle.postcard_ser_flavors.proofs.InPlace.{fits_here, held_here, behind_her
 use Rattle.postcard_ser_flavors.proofs.slice.SliceFlavor.try_varint.Goals as goal
 
 pub write_u64-count-requires : goal.write_u64-count-requires
-write_u64-count-requires c = fits_here c.args.n c.self.inside.position c.lend-all.result.now (omega arith) (omega (arith, c.if-self-lt-VARINT_MAX_64.false, ap length c.lend-all.ensures.value, c.self.invariant))
+write_u64-count-requires c = fits_here c.args.n c.self.inside.position c.lend-all.result.now (omega (arith, c.if-self-size.false, c.len_u64-size.ensures, ap length c.lend-all.ensures.value, c.self.invariant))
 
 pub returns : goal.returns
 returns c = record {
