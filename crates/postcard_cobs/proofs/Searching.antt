@@ -133,3 +133,18 @@ at_stop xs k n at r l w z stops is e = by_order (ltb (n + k) (length xs)) refl w
   by_order false o =
       let le : length xs ≤ n + k = ltb-false (n + k) (length xs) o in
       in_last xs at k n r (omega (arith, is)) (omega (arith, is)) z e
+
+-- Bytes are free of zeros if their first k and their last k are, which together are all.
+pub free_ends : (xs : List ℕ) (k last : ℕ) → last + k ≡ length xs → length xs ≤ k + k
+    → NoZero (take k xs) → NoZero (take k (drop last xs)) → NoZero xs
+free_ends xs k last l s a b =
+    let front = subst NoZero (take-take last k xs (omega (arith, l, s))) (NoZero-take last (take k xs) a) in
+    subst NoZero (take_all (last + k) xs (omega (arith, l))) (none_on xs last k front b)
+
+-- Bytes without a zero come before the first zero, or the end.
+pub all_before : (xs : List ℕ) → NoZero xs → length (before_zero xs) ≡ length xs
+all_before [] z = refl
+all_before (x ∷ xs) z =
+    let is : eqb x 0 ≡ false = ne_eqb x 0 (λ e. omega (arith, z.0)) in
+    let deep = all_before xs z.1 in
+    rw is (omega (arith, deep))
