@@ -5,10 +5,10 @@ ghost use Rattle.std.specs.Prelude.{OnOk, OnErr, IsOk, IsOkUnless, IsTrue, IsErr
 ghost use Rattle.postcard_ser_cobs.specs.{FinalizedBy, HasFrameRoom, HoldsOpen, LeavesFrame};
 ghost use Rattle.postcard_ser_cobs.specs.{PushedBy, PushedToFrame, digits, made};
 
-use crate::steps::{push_one, set_code, take_step};
-use postcard_cobs::EncoderState;
+use crate::steps::{push_one, push_varint, set_code, take_step};
+use postcard_cobs::{EncoderState, is_zero_free};
 use postcard_ser_flavors::{Flavor, Storage};
-use postcard_wire::varint::{VARINT_MAX_64, varint_u64};
+use postcard_wire::varint::VARINT_MAX_64;
 use postcard_wire::{Error, Result};
 
 mod runs;
@@ -178,9 +178,9 @@ impl<B: Storage + Drop> Flavor for Cobs<B> {
         Ok(())
     }
 
-    /// Takes bytes of data. Each run of bytes between zeros goes to the storage in one piece, and
-    /// so do bytes that are dense with zeros, but each piece ends where a group of 254 bytes is
-    /// full.
+    /// Takes bytes of data. A text without zeros that the open group has room for goes to the
+    /// storage in one piece, and other bytes piece by piece.
+    #[inline]
     fn try_extend(&mut self, bytes: &[u8]) -> Result<()>
         ensures pushed { PushedBy ⟦<Self as Flavor>⟧ self.old bytes.now result self.new }
         ensures stays_refused { IsTrue self.old.failed → 0 < length bytes.now
@@ -189,19 +189,29 @@ impl<B: Storage + Drop> Flavor for Cobs<B> {
         ensures remembers_refusal { OnErr result (IsTrue self.new.failed) }
         ensures refuses_by_buffer_full { IsOkUnless result Error.SerializeBufferFull }
     {
-        let mut place = 0;
-        while place < bytes.len() {
-            place = self.push_next(bytes, place)?;
+        if bytes.len() < self.encoder.run_room() && is_zero_free(bytes) {
+            return self.push_run(bytes);
         }
-        Ok(())
+        self.push_pieces(bytes)
     }
 
+    /// Takes the varint of a number. Only the number 0 has a zero in its varint. The storage writes
+    /// any other by itself, if the open group has room for the longest.
+    #[inline(always)]
     fn try_varint(&mut self, n: u64) -> Result<()>
         ensures { PushedToFrame ⟦<Self as Flavor>⟧ (λ c. c.failed) (λ c. c.storage)
             self.old (digits n) result self.new }
     {
-        let mut out = [0; VARINT_MAX_64];
-        self.try_extend(varint_u64(n, &mut out))
+        let close = self.encoder.run_room() <= VARINT_MAX_64;
+        if n == 0 || self.failed || close || self.encoder.place() > MAX_PLACE - VARINT_MAX_64 {
+            return self.push_digits(n);
+        }
+        // A refusal by the storage leaves this set.
+        self.failed = true;
+        let len = push_varint(&mut self.storage, n)?;
+        self.encoder.push_run_len(len);
+        self.failed = false;
+        Ok(())
     }
 
     /// Closes the frame as [`close`](Cobs::close) does, and returns the output of the storage. Also

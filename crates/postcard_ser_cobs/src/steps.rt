@@ -2,8 +2,8 @@
 //! that pushes bytes fails with `SerializeBufferFull` if the storage fails, by whatever error.
 
 ghost use Rattle.std.specs.Prelude.{◌≡◌, ℕ, ◌+◌, ◌-◌, ◌<◌, ◌≤◌, List, [], ◌∷◌, ◌++◌, length};
-ghost use Rattle.std.specs.Prelude.{slice_set, IsOkUnless, OnOk, IsOk};
-ghost use Rattle.postcard_ser_cobs.specs.{HoldsThen, SetsBelow, changed_from, growth};
+ghost use Rattle.std.specs.Prelude.{slice_set, IfOk, IsOkUnless, OnOk, IsOk};
+ghost use Rattle.postcard_ser_cobs.specs.{HoldsThen, SetsBelow, changed_from, digits, growth};
 
 use postcard_cobs::{EncoderState, PushResult};
 use postcard_ser_flavors::{Flavor, Storage};
@@ -33,6 +33,24 @@ pub(crate) fn push_piece<B: Storage>(storage: &mut B, bytes: &[u8]) -> Result<()
 {
     match storage.try_extend(bytes) {
         Ok(()) => Ok(()),
+        Err(_) => Err(Error::SerializeBufferFull),
+    }
+}
+
+/// Pushes the varint of a number, and returns the number of its bytes.
+#[inline(always)]
+pub(crate) fn push_varint<B: Storage>(storage: &mut B, n: u64) -> Result<usize>
+    ensures appends { OnOk result (B.held storage.new ≡ B.held storage.old ++ digits n) }
+    ensures counts { IfOk result (λ len. len ≡ length (digits n)) }
+    ensures has_room { B.free storage.old (length (digits n)) → IsOk result }
+    ensures leaves { B.reaches storage.old storage.new }
+    ensures keeps_free { OnOk result
+        ((m : ℕ) → B.free storage.old (length (digits n) + m) → B.free storage.new m) }
+    ensures refuses_by_buffer_full { IsOkUnless result Error.SerializeBufferFull }
+{
+    let before = storage.held_len();
+    match storage.try_varint(n) {
+        Ok(()) => Ok(storage.held_len() - before),
         Err(_) => Err(Error::SerializeBufferFull),
     }
 }

@@ -3,12 +3,13 @@
 
 ghost use Rattle.std.specs.Prelude.{◌≡◌, ◌≤◌, ◌+◌, ◌-◌, ◌<◌, length, take, drop, slice_index, IfOk};
 ghost use Rattle.std.specs.Prelude.{IsOkUnless, OnErr, IsOk, IsTrue, IsErrOf};
-ghost use Rattle.postcard_ser_cobs.specs.{NoZero, PushedToFrame};
+ghost use Rattle.postcard_ser_cobs.specs.{NoZero, PushedBy, PushedToFrame, digits};
 
 use crate::cobs::{Cobs, MAX_PLACE};
 use crate::steps::{push_piece, set_codes};
 use postcard_cobs::{EncoderState, frame_len};
 use postcard_ser_flavors::{Flavor, Storage};
+use postcard_wire::varint::{VARINT_MAX_64, varint_u64};
 use postcard_wire::{Error, Result};
 use std::mem;
 
@@ -59,7 +60,8 @@ fn run_len(bytes: &[u8], most: usize) -> usize
 impl<B: Storage + Drop> Cobs<B> {
     /// Takes a run in one piece. It must have no zero, and not make the open group full. Fails as
     /// `try_push` does.
-    fn push_run(&mut self, run: &[u8]) -> Result<()>
+    #[inline(always)]
+    pub(super) fn push_run(&mut self, run: &[u8]) -> Result<()>
         requires no_zero { NoZero run.now }
         requires short { length run.now < 255 - self.old.encoder.code }
         ensures { PushedToFrame ⟦<Self as Flavor>⟧ (λ c. c.failed) (λ c. c.storage)
@@ -101,7 +103,7 @@ impl<B: Storage + Drop> Cobs<B> {
 
     /// Takes the run that starts at `place` of `bytes`, or a piece with its zeros if many are near,
     /// or the one byte there, and returns the place after it. Fails as `try_push` does.
-    pub(super) fn push_next(&mut self, bytes: &[u8], place: usize) -> Result<usize>
+    fn push_next(&mut self, bytes: &[u8], place: usize) -> Result<usize>
         requires { place < length bytes.now }
         ensures advances { IfOk result (λ n. (place < n) × (n ≤ length bytes.now)) }
         ensures appends { IfOk result (λ n. ⟦<Self as Flavor>⟧.appended self.old
@@ -127,5 +129,36 @@ impl<B: Storage + Drop> Cobs<B> {
         }
         self.push_run(&rest[..count])?;
         Ok(place + count)
+    }
+    /// Takes bytes of data piece by piece. Each run of bytes between zeros goes to the storage in
+    /// one piece, and so do bytes that are dense with zeros, but each piece ends where a group of
+    /// 254 bytes is full.
+    #[inline(never)]
+    pub(super) fn push_pieces(&mut self, bytes: &[u8]) -> Result<()>
+        ensures pushed { PushedBy ⟦<Self as Flavor>⟧ self.old bytes.now result self.new }
+        ensures stays_refused { IsTrue self.old.failed → 0 < length bytes.now
+            → IsErrOf result Error.SerializeBufferFull }
+        ensures storage_kept { IsTrue self.old.failed → self.new.storage ≡ self.old.storage }
+        ensures remembers_refusal { OnErr result (IsTrue self.new.failed) }
+        ensures refuses_by_buffer_full { IsOkUnless result Error.SerializeBufferFull }
+    {
+        let mut place = 0;
+        while place < bytes.len() {
+            place = self.push_next(bytes, place)?;
+        }
+        Ok(())
+    }
+
+    /// Takes the varint of a number as a zero, or as bytes of data like any others.
+    #[inline(never)]
+    pub(super) fn push_digits(&mut self, n: u64) -> Result<()>
+        ensures { PushedToFrame ⟦<Self as Flavor>⟧ (λ c. c.failed) (λ c. c.storage)
+            self.old (digits n) result self.new }
+    {
+        if n == 0 {
+            return self.try_push(0);
+        }
+        let mut out = [0; VARINT_MAX_64];
+        self.push_pieces(varint_u64(n, &mut out))
     }
 }

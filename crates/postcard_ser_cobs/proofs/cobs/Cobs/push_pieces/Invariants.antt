@@ -2,7 +2,7 @@
 use Rattle.std.specs.Prelude.{IsTrue}
 use Rattle.std.proofs.Common.{◌≡◌, ℕ, List, ◌≤◌, ◌-◌, ◌++◌, length, take}
 use Rattle.postcard_ser_cobs.specs.Framing.{HoldsOpen, LeavesFrame}
-use Rattle.postcard_ser_cobs.proofs.cobs.CobsFlavor.try_extend.Given as goal
+use Rattle.postcard_ser_cobs.proofs.cobs.Cobs.push_pieces.Given as goal
 
 abbrev pub invariant-loop-place : goal.invariant-loop-place
 invariant-loop-place g l = record {

@@ -4,7 +4,7 @@ use Rattle.std.proofs.lemmas.List.{take-append-drop, take_all}
 use Rattle.postcard_ser_cobs.specs.Framing.{HasFrameRoom}
 use Rattle.postcard_ser_cobs.specs.FramingLaws.{room_of_rest, leaves_join}
 use Rattle.postcard_ser_cobs.proofs.RunLemmas.{holds_further}
-use Rattle.postcard_ser_cobs.proofs.cobs.CobsFlavor.try_extend.Goals as goal
+use Rattle.postcard_ser_cobs.proofs.cobs.Cobs.push_pieces.Goals as goal
 
 pub loop-place-preserved : goal.loop-place-preserved
 loop-place-preserved g c = let so = c.loop-place.invariant in record {
