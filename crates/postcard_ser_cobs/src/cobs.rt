@@ -5,7 +5,7 @@ ghost use Rattle.std.specs.Prelude.{OnOk, OnErr, IsOk, IsOkUnless, IsTrue, IsErr
 ghost use Rattle.postcard_ser_cobs.specs.{FinalizedBy, HasFrameRoom, HoldsOpen, LeavesFrame};
 ghost use Rattle.postcard_ser_cobs.specs.{PushedBy, PushedToFrame, digits, made};
 
-use crate::steps::{push_one, push_varint, set_code, take_step};
+use crate::steps::{push_one, push_varint, set_code};
 use postcard_cobs::{EncoderState, is_zero_free};
 use postcard_ser_flavors::{Flavor, Storage};
 use postcard_wire::varint::VARINT_MAX_64;
@@ -166,14 +166,13 @@ impl<B: Storage + Drop> Flavor for Cobs<B> {
         ensures { PushedToFrame ⟦<Self as Flavor>⟧ (λ c. c.failed) (λ c. c.storage)
             self.old (byte ∷ []) result self.new }
     {
-        if self.failed || self.encoder.place() > MAX_PLACE {
-            self.failed = true;
-            return Err(Error::SerializeBufferFull);
+        if byte == 0 || !self.takes_run(1) {
+            return self.push_step(byte);
         }
         // A refusal by the storage leaves this set.
         self.failed = true;
-        let step = self.encoder.push(byte);
-        take_step(&mut self.storage, self.start, step)?;
+        push_one(&mut self.storage, byte)?;
+        self.encoder.push_run_len(1);
         self.failed = false;
         Ok(())
     }
@@ -189,7 +188,7 @@ impl<B: Storage + Drop> Flavor for Cobs<B> {
         ensures remembers_refusal { OnErr result (IsTrue self.new.failed) }
         ensures refuses_by_buffer_full { IsOkUnless result Error.SerializeBufferFull }
     {
-        if bytes.len() < self.encoder.run_room() && is_zero_free(bytes) {
+        if self.takes_run(bytes.len()) && is_zero_free(bytes) {
             return self.push_run(bytes);
         }
         self.push_pieces(bytes)
@@ -202,8 +201,7 @@ impl<B: Storage + Drop> Flavor for Cobs<B> {
         ensures { PushedToFrame ⟦<Self as Flavor>⟧ (λ c. c.failed) (λ c. c.storage)
             self.old (digits n) result self.new }
     {
-        let close = self.encoder.run_room() <= VARINT_MAX_64;
-        if n == 0 || self.failed || close || self.encoder.place() > MAX_PLACE - VARINT_MAX_64 {
+        if n == 0 || !self.takes_run(VARINT_MAX_64) {
             return self.push_digits(n);
         }
         // A refusal by the storage leaves this set.

@@ -1,12 +1,13 @@
 //! Writes many bytes to the storage by one call: runs, which have no zeros, and pieces that have
 //! many.
 
-ghost use Rattle.std.specs.Prelude.{◌≡◌, ◌≤◌, ◌+◌, ◌-◌, ◌<◌, length, take, drop, slice_index, IfOk};
-ghost use Rattle.std.specs.Prelude.{IsOkUnless, OnErr, IsOk, IsTrue, IsErrOf};
+ghost use Rattle.std.specs.Prelude.{◌≡◌, ◌≤◌, ◌+◌, ◌-◌, ◌<◌, ◌∷◌, [], length, take, drop};
+ghost use Rattle.std.specs.Prelude.{slice_index, IfOk, IsOkUnless, OnErr, IsOk, IsTrue, IsFalse};
+ghost use Rattle.std.specs.Prelude.{IsErrOf};
 ghost use Rattle.postcard_ser_cobs.specs.{NoZero, PushedBy, PushedToFrame, digits};
 
 use crate::cobs::{Cobs, MAX_PLACE};
-use crate::steps::{push_piece, set_codes};
+use crate::steps::{push_piece, set_codes, take_step};
 use postcard_cobs::{EncoderState, frame_len};
 use postcard_ser_flavors::{Flavor, Storage};
 use postcard_wire::varint::{VARINT_MAX_64, varint_u64};
@@ -58,6 +59,39 @@ fn run_len(bytes: &[u8], most: usize) -> usize
 }
 
 impl<B: Storage + Drop> Cobs<B> {
+    /// Returns whether the open group has room for a run of `len` bytes and does not get full by
+    /// it, after no refusal. The frame can then be counted with the run.
+    #[inline(always)]
+    pub(super) fn takes_run(&self, len: usize) -> bool
+        ensures going { IsTrue result → IsFalse self.now.failed }
+        ensures short { IsTrue result → len < 255 - self.now.encoder.code }
+        ensures countable { IsTrue result
+            → self.now.encoder.code_at + self.now.encoder.code + len ≤ usize.MAX - 2 }
+        ensures else_full { IsFalse result → IsFalse self.now.failed
+            → len < 255 - self.now.encoder.code
+            → usize.MAX - 2 < self.now.encoder.code_at + self.now.encoder.code + len }
+    {
+        !self.failed && len < self.encoder.run_room() && self.encoder.place() <= MAX_PLACE - len
+    }
+
+    /// Takes a byte of data by the encoder's step for it. Fails as `try_push` does.
+    #[inline(never)]
+    pub(super) fn push_step(&mut self, byte: u8) -> Result<()>
+        ensures { PushedToFrame ⟦<Self as Flavor>⟧ (λ c. c.failed) (λ c. c.storage)
+            self.old (byte ∷ []) result self.new }
+    {
+        if self.failed || self.encoder.place() > MAX_PLACE {
+            self.failed = true;
+            return Err(Error::SerializeBufferFull);
+        }
+        // A refusal by the storage leaves this set.
+        self.failed = true;
+        let step = self.encoder.push(byte);
+        take_step(&mut self.storage, self.start, step)?;
+        self.failed = false;
+        Ok(())
+    }
+
     /// Takes a run in one piece. It must have no zero, and not make the open group full. Fails as
     /// `try_push` does.
     #[inline(always)]
@@ -124,7 +158,7 @@ impl<B: Storage + Drop> Cobs<B> {
             return Ok(place + dense);
         }
         if count == 0 {
-            self.try_push(rest[0])?;
+            self.push_step(rest[0])?;
             return Ok(place + 1);
         }
         self.push_run(&rest[..count])?;
@@ -156,7 +190,7 @@ impl<B: Storage + Drop> Cobs<B> {
             self.old (digits n) result self.new }
     {
         if n == 0 {
-            return self.try_push(0);
+            return self.push_step(0);
         }
         let mut out = [0; VARINT_MAX_64];
         self.push_pieces(varint_u64(n, &mut out))

@@ -5,7 +5,7 @@ use Rattle.postcard_ser_cobs.proofs.NumberLemmas.{digits_some, digits_none}
 use Rattle.postcard_ser_cobs.proofs.cobs.Cobs.push_digits.Goals as goal
 
 pub returns-then-n-eq0 : goal.returns-then-n-eq0
-returns-then-n-eq0 g c = rw (c.if-n-eq0.true, digits_none) c.try_push.ensures
+returns-then-n-eq0 g c = rw (c.if-n-eq0.true, digits_none) c.push_step.ensures
 
 pub returns : goal.returns
 returns g c = record {

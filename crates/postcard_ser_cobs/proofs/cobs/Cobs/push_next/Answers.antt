@@ -6,14 +6,14 @@ use Rattle.postcard_ser_cobs.specs.FramingLaws.{room_of_front}
 use Rattle.postcard_ser_cobs.proofs.RunLemmas.{first_and_rest, first_of_rest, front_of_rest, room_of_next}
 use Rattle.postcard_ser_cobs.proofs.cobs.Cobs.push_next.Goals as goal
 
-pub returns-in_err-try_push-clause-has_room : goal.returns-in_err-try_push-clause-has_room
-returns-in_err-try_push-clause-has_room g c r =
+pub returns-in_err-push_step-clause-has_room : goal.returns-in_err-push_step-clause-has_room
+returns-in_err-push_step-clause-has_room g c r =
     let s = c.args.self.now in
     let q = take_rest c.args.bytes.now c.args.place in
     let rest = take (length c.args.bytes.now - c.args.place) (drop c.args.place c.args.bytes.now) in
     let l : 0 < length (drop c.args.place c.args.bytes.now) = omega (arith, length-drop c.args.place c.args.bytes.now, c.requires) in
     let l' : 0 < length rest = rw q l in
-    let no = c.in_err-try_push.ensures.pushed.has_room
+    let no = c.in_err-push_step.ensures.pushed.has_room
     (room_of_front g.B.Storage.free_lawful.free_fewer (get_or rest 0 0 ∷ []) (drop 1 rest) (subst (λ z. HasFrameRoom g.B.Storage.held g.B.Storage.free s.storage s.start s.encoder s.failed z) (sym q ∙ first_and_rest rest l') r)) in
     absurd (cc)
 
@@ -31,7 +31,7 @@ pub returns-then-dense-gt0-clause-appends : goal.returns-then-dense-gt0-clause-a
 returns-then-dense-gt0-clause-appends g c = rw (front_of_rest c.args.bytes.now c.args.place c.dense_len-dense.result) c.in_ok-push_dense.ensures.pushed.appends
 
 pub returns-then-count-eq0-clause-appends : goal.returns-then-count-eq0-clause-appends
-returns-then-count-eq0-clause-appends g c = rw (first_of_rest c.args.bytes.now c.args.place c.requires) c.in_ok-try_push.ensures.pushed.appends
+returns-then-count-eq0-clause-appends g c = rw (first_of_rest c.args.bytes.now c.args.place c.requires) c.in_ok-push_step.ensures.pushed.appends
 
 pub returns-clause-appends : goal.returns-clause-appends
 returns-clause-appends g c = rw (front_of_rest c.args.bytes.now c.args.place c.run_len-count.result) c.in_ok-push_run.ensures.pushed.appends

@@ -10,7 +10,7 @@ use Rattle.postcard_ser_cobs.proofs.cobs.CobsFlavor.try_varint.Goals as goal
 pub returns-in_err-len : goal.returns-in_err-len
 returns-in_err-len g c =
     let few = few_64 c.args.n (omega (arith, c.ranges.n.fits)) in
-    let short : length (digits c.args.n) + c.args.self.now.encoder.code < 255 = omega (arith, few, c.run_room-close.ensures.value, c.if-close.false) in
+    let short : length (digits c.args.n) + c.args.self.now.encoder.code < 255 = omega (arith, few, c.takes_run.ensures.short c.if-not-takes_run.false) in
     record {
       pushed = record {
         appends = search rules;
@@ -28,18 +28,18 @@ returns-in_err-len g c =
 
 pub push_run_len-requires-clause-short : goal.push_run_len-requires-clause-short
 push_run_len-requires-clause-short g c =
-    omega (arith, few_64 c.args.n (omega (arith, c.ranges.n.fits)), c.in_ok-len.ensures.counts, c.run_room-close.ensures.value, c.if-close.false)
+    omega (arith, few_64 c.args.n (omega (arith, c.ranges.n.fits)), c.in_ok-len.ensures.counts, c.takes_run.ensures.short c.if-not-takes_run.false)
 
 pub push_run_len-requires-clause-countable : goal.push_run_len-requires-clause-countable
 push_run_len-requires-clause-countable g c =
-    omega (arith, few_64 c.args.n (omega (arith, c.ranges.n.fits)), c.in_ok-len.ensures.counts, c.place.ensures, c.if-place.false)
+    omega (arith, few_64 c.args.n (omega (arith, c.ranges.n.fits)), c.in_ok-len.ensures.counts, c.takes_run.ensures.countable c.if-not-takes_run.false)
 
 pub invariant_of-self-2 : goal.invariant_of-self-2
 invariant_of-self-2 g c =
     let s = c.args.self.now in
     let free = digits_free c.args.n (omega (arith, c.if-n-eq0.false)) in
     record {
-      stands = ∥∥₁_map s.stands (λ f _. let p = f c.if-self.false in
+      stands = ∥∥₁_map s.stands (λ f _. let p = f (c.takes_run.ensures.going c.if-not-takes_run.false) in
           (p.0, p.1 ++ digits c.args.n, run_holds _ refl c.in_ok-len.ensures.appends (λ L d. c.push_run_len.ensures.open _ L d (sym c.in_ok-len.ensures.counts) free) p.2));
     }
 
@@ -52,7 +52,7 @@ returns g c =
         appends = λ before d h. run_holds _ refl said.appends (λ L d. c.push_run_len.ensures.open _ L d (sym said.counts) free) h;
         has_room = search rules;
         refused = search rules;
-        leaves = grown_leaves _ c.if-self.false said.leaves (ap length said.appends ∙ length-append _ _) said.keeps_free;
+        leaves = grown_leaves _ (c.takes_run.ensures.going c.if-not-takes_run.false) said.leaves (ap length said.appends ∙ length-append _ _) said.keeps_free;
       };
       stays_refused = search rules;
       storage_kept = search rules;
