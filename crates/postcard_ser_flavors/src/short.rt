@@ -2,26 +2,25 @@
 
 ghost use Rattle.std.specs.Prelude.{◌≡◌, ◌+◌, ◌≤◌, length};
 
-/// Copies the bytes of a piece to a place of its length. A piece of 4 to 32 bytes takes two moves.
+/// Copies the bytes of a piece to a place of its length. A piece of 1 to 32 bytes takes two moves.
 #[inline(always)]
 pub fn copy(to: &mut [u8], from: &[u8])
     requires { length to.old ≡ length from.now }
     ensures { to.new ≡ from.now }
 {
-    let len = from.len();
-    if len < 4 || len > 32 {
-        copy_any(to, from);
-    } else if len > 16 {
-        copy_ends::<16>(to, from);
-    } else if len >= 8 {
-        copy_ends::<8>(to, from);
-    } else {
-        copy_ends::<4>(to, from);
+    match from.len() {
+        0 => {}
+        1 => to[0] = from[0],
+        2..4 => copy_ends::<2>(to, from),
+        4..8 => copy_ends::<4>(to, from),
+        8..=16 => copy_ends::<8>(to, from),
+        17..=32 => copy_ends::<16>(to, from),
+        _ => copy_long(to, from),
     }
 }
 
 #[inline(never)]
-fn copy_any(to: &mut [u8], from: &[u8])
+fn copy_long(to: &mut [u8], from: &[u8])
     requires { length to.old ≡ length from.now }
     ensures { to.new ≡ from.now }
 {
