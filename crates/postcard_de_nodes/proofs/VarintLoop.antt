@@ -45,6 +45,18 @@ module _ {S : Type 0} {left : S → Left} {able : S → ℕ → Type 0}
   begun w digits old h =
       record { front = []; read = h; taken = nothing_taken old; leaves = laws.itself old }
 
+  -- If a digit that was taken isn't the last one, the loop goes on.
+  pub goes_on : {w : ℕ} {digits after : Digits} {old now new : S} {b : ℕ} →
+      (so : Within w left able may_leave old digits now) → Takes left able now (b ∷ []) new →
+      may_leave now new → HasRead w (so.front ++ b ∷ []) after →
+      Within w left able may_leave old after new
+  goes_on {old = old} {now = now} {new = new} {b = b} so t l h = record {
+    front = so.front ++ b ∷ [];
+    read = h;
+    taken = both_taken so.taken t;
+    leaves = laws.joins old now new so.leaves l;
+  }
+
   -- Once the last digit was taken, the number was read.
   pub number_read : {w : ℕ} {digits : Digits} {old now new : S} {b n : ℕ} →
       (so : Within w left able may_leave old digits now) → Takes left able now (b ∷ []) new →

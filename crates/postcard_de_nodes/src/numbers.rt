@@ -33,6 +33,17 @@ pub fn number<F: Flavor>(flavor: &mut F, bits: u32) -> Result<u128>
 pub fn count<F: Flavor>(flavor: &mut F) -> Result<usize>
     ensures { ReadsNode F.Flavor (number_node 64) flavor.old result flavor.new }
 {
-    let count = number(flavor, 64)?;
-    Ok(count as usize)
+    let mut digits = Digits::new();
+    let first = flavor.pop()?;
+    if let Some(count) = digits.push(64, first)? {
+        return Ok(count as usize);
+    }
+    // No counted loop: most counts have one byte, so the compiler must not unroll the rest. A call
+    // would keep the source in memory.
+    loop {
+        let byte = flavor.pop()?;
+        if let Some(count) = digits.push(64, byte)? {
+            return Ok(count as usize);
+        }
+    }
 }

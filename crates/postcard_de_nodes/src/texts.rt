@@ -16,6 +16,7 @@ const LONGEST_CHAR: usize = 4;
 /// Reads a text: its length in bytes as a varint, and that many bytes of UTF-8 (wire format 1.0,
 /// "string"). The text borrows from what the source borrows, and stays valid after later calls.
 /// Also fails with `DeserializeBadUtf8` if the bytes aren't UTF-8; they are taken then.
+#[inline(always)]
 pub fn text<'de, F: Flavor>(flavor: &mut F) -> Result<&'de str>
 where
     F: 'de,
