@@ -9,3 +9,4 @@ pub mod FloatLanes
 pub mod Distinct
 pub mod Varints
 pub mod OneByte
+pub mod Counted

@@ -8,9 +8,10 @@
 //! of values that are one node, and the combinators, each of which makes a shape from those of its
 //! parts, laws included, so that a type says its shape in one line.
 //!
-//! In reading order: `shape`, `first`, `rows`, `cases`, `runs` and `pieces`, `formats`, `values`.
+//! In reading order: `shape`, `first`, `rows`, `cases`, `runs`, `blocks` and `pieces`, `formats`, `values`.
 #![tactic(auto)]
 
+mod blocks;
 pub mod cases;
 pub mod first;
 pub mod formats;

@@ -7,8 +7,12 @@ ghost use Rattle.std.specs.Prelude.{◌≡◌, ◌<◌, ◌≤◌, [], ◌∷◌
 ghost use Rattle.postcard_shape.specs.{AllFit, AreFirst, IsBlockOf, IsRowOf, binary32, binary64};
 ghost use Rattle.postcard_shape.specs.{canonical_all, fits, float, float_tree, to_bits, trees};
 
+use crate::blocks::{self, OfBytes};
 use crate::first::FirstBytes;
 use crate::shape::Shaped;
+use postcard_wire::Result;
+use postcard_wire::laws::in_range;
+use std::num::{f32_from_bits_with_nan, f64_from_bits_with_nan};
 use std::simd::prelude::*;
 
 impl Shaped for f32 {
@@ -33,6 +37,11 @@ impl Shaped for f32 {
             None => FirstBytes::OneByOne,
         }
     }
+
+    #[inline(always)]
+    fn append_at_hand(items: &mut Vec<f32>, bytes: &[u8], most: usize) -> Result<Option<usize>> {
+        blocks::append(items, bytes, most)
+    }
 }
 
 impl Shaped for f64 {
@@ -55,6 +64,49 @@ impl Shaped for f64 {
             }
             None => FirstBytes::OneByOne,
         }
+    }
+
+    #[inline(always)]
+    fn append_at_hand(items: &mut Vec<f64>, bytes: &[u8], most: usize) -> Result<Option<usize>> {
+        blocks::append(items, bytes, most)
+    }
+}
+
+impl OfBytes for f32 {
+    ghost size = { 4 };
+
+    ghost form = { float binary32 };
+
+    #[inline(always)]
+    fn size() -> usize {
+        4
+    }
+
+    #[inline(always)]
+    fn from_front(bytes: &[u8]) -> f32 {
+        let front = in_range(&bytes[..4]);
+        let mut array = [0; 4];
+        array.copy_from_slice(front);
+        f32_from_bits_with_nan(u32::from_le_bytes(array))
+    }
+}
+
+impl OfBytes for f64 {
+    ghost size = { 8 };
+
+    ghost form = { float binary64 };
+
+    #[inline(always)]
+    fn size() -> usize {
+        8
+    }
+
+    #[inline(always)]
+    fn from_front(bytes: &[u8]) -> f64 {
+        let front = in_range(&bytes[..8]);
+        let mut array = [0; 8];
+        array.copy_from_slice(front);
+        f64_from_bits_with_nan(u64::from_le_bytes(array))
     }
 }
 
