@@ -1,5 +1,6 @@
 //! Writes many bytes to the storage by one call: runs, which have no zeros, and pieces that have
-//! many.
+//! many. The flavor's own calls take only runs that the open group has room for, and leave the rest
+//! to the calls here.
 
 ghost use Rattle.std.specs.Prelude.{◌≡◌, ◌≤◌, ◌+◌, ◌-◌, ◌<◌, ◌∷◌, [], length, take, drop};
 ghost use Rattle.std.specs.Prelude.{slice_index, IfOk, IsOkUnless, OnErr, IsOk, IsTrue, IsFalse};
@@ -166,7 +167,7 @@ impl<B: Storage + Drop> Cobs<B> {
     }
     /// Takes bytes of data piece by piece. Each run of bytes between zeros goes to the storage in
     /// one piece, and so do bytes that are dense with zeros, but each piece ends where a group of
-    /// 254 bytes is full.
+    /// 254 bytes is full. Fails as `try_extend` does.
     #[inline(never)]
     pub(super) fn push_pieces(&mut self, bytes: &[u8]) -> Result<()>
         ensures pushed { PushedBy ⟦<Self as Flavor>⟧ self.old bytes.now result self.new }
@@ -183,7 +184,8 @@ impl<B: Storage + Drop> Cobs<B> {
         Ok(())
     }
 
-    /// Takes the varint of a number as a zero, or as bytes of data like any others.
+    /// Takes the varint of a number as a zero, or as bytes of data like any others. Fails as
+    /// `try_push` does.
     #[inline(never)]
     pub(super) fn push_digits(&mut self, n: u64) -> Result<()>
         ensures { PushedToFrame ⟦<Self as Flavor>⟧ (λ c. c.failed) (λ c. c.storage)
