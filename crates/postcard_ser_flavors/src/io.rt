@@ -172,16 +172,12 @@ impl<T: Write + Drop> Flavor for WriteFlavor<T> {
 
     /// Writes what is held, flushes the writer and returns it. If one of the two fails, the writer
     /// is dropped.
-    fn finalize(self) -> Result<T>
+    fn finalize(mut self) -> Result<T>
         ensures finalized { FinalizedBy ⟦<Self as Flavor>⟧ self result }
         ensures refuses_by_buffer_full { IsOkUnless result Error.SerializeBufferFull }
     {
-        let WriteFlavor {
-            mut writer,
-            block,
-            count,
-        } = self;
-        write_all(&mut writer, &block[..count])?;
+        write_all(&mut self.writer, &self.block[..self.count])?;
+        let WriteFlavor { mut writer, .. } = self;
         writer.flush().map_err(|_| Error::SerializeBufferFull)?;
         Ok(writer)
     }
