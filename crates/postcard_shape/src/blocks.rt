@@ -7,7 +7,7 @@ ghost use Rattle.postcard_shape.specs.Shape.{Shape};
 use postcard_wire::{Error, Result};
 
 /// A type whose values have the same number of bytes each. Any bytes are read.
-pub(crate) trait OfBytes: Copy {
+pub trait OfBytes: Sized {
     /// The number of bytes.
     ghost size: { ℕ };
 
@@ -17,8 +17,7 @@ pub(crate) trait OfBytes: Copy {
 
     /// Returns the number of bytes.
     fn size() -> usize
-        ensures is { result ≡ size }
-        ensures some { 0 < result };
+        ensures { result ≡ size };
 
     /// Returns the value that `bytes` begin with.
     fn from_front(bytes: &[u8]) -> Self
@@ -29,11 +28,7 @@ pub(crate) trait OfBytes: Copy {
 /// Appends the next values to a list, as `append_at_hand` does: as many as `bytes` have whole, but
 /// at most `most`. Asks for memory for just these.
 #[inline(always)]
-pub(crate) fn append<T: OfBytes>(
-    items: &mut Vec<T>,
-    bytes: &[u8],
-    most: usize,
-) -> Result<Option<usize>>
+pub fn append<T: OfBytes>(items: &mut Vec<T>, bytes: &[u8], most: usize) -> Result<Option<usize>>
     ensures within { IfOk result (λ front. IfSome front
         (λ n. (0 < n) × (n ≤ length bytes.now))) }
     ensures reads { IfOk result (λ front. IfSome front (λ n. Appends T.form.reads T.form.value most
@@ -43,7 +38,7 @@ pub(crate) fn append<T: OfBytes>(
     ensures only_out_of_memory { IfErr result (λ e. e ≡ Error.OutOfMemory) }
 {
     let size = T::size();
-    if bytes.len() < size || most == 0 {
+    if size == 0 || bytes.len() < size || most == 0 {
         return Ok(None);
     }
     let count = most.min(bytes.len() / size);

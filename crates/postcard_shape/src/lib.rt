@@ -11,7 +11,7 @@
 //! In reading order: `shape`, `first`, `rows`, `cases`, `runs`, `blocks` and `pieces`, `formats`, `values`.
 #![tactic(auto)]
 
-mod blocks;
+pub mod blocks;
 pub mod cases;
 pub mod first;
 pub mod formats;

@@ -8,7 +8,7 @@ use Rattle.postcard_shape.proofs.blocks.append.Goals as goal
 pub loop-init : goal.loop-init
 loop-init g c =
     let size = c.size-size.result in
-    let some : 0 < size = c.size-size.ensures.some in
+    let some : 0 < size = omega arith in
     let n = length c.args.bytes.now in
     let one : 1 * size ≤ n = omega arith in
     let whole : 1 ≤ n / size = (le-div_iff_mul-le some).1 one in
@@ -31,7 +31,7 @@ loop-preserved g c =
     record {
       some = so.some;
       so = one_read g.T.OfBytes.form c.args.items.now.items c.loop.items.items c.push_reserved.new.self.items i size _
-          c.args.bytes.now rest _ c.from_front.result so.so c.size-size.ensures.is c.from_front.ensures c.push_reserved.ensures.items some
+          c.args.bytes.now rest _ c.from_front.result so.so c.size-size.ensures c.from_front.ensures c.push_reserved.ensures.items some
           (one_left c.min-count.result i size rest few so.left) (take_rest rest size);
       room = omega (arith, few, so.room, c.push_reserved.ensures.len, c.push_reserved.ensures.capacity);
       left = others_left c.min-count.result i size rest _ few so.left (take_rest rest size);
