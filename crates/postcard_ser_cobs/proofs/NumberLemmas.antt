@@ -1,5 +1,5 @@
 -- The digits of a number: how many there are, and that only the number 0 has a zero among them.
-use Rattle.std.proofs.Common.{◌≡◌, ℕ, suc, zero, ◌+◌, ◌<◌, ◌/◌, ◌%◌, [], ◌∷◌, length, inl, inr, refl, arith}
+use Rattle.std.proofs.Common.{◌≡◌, ℕ, suc, zero, ◌<◌, ◌/◌, [], ◌∷◌, length, inl, inr, refl, arith}
 use Rattle.std.proofs.lemmas.Bool.{cases_lt}
 use Rattle.postcard_wire.specs.Number.{digits, digits_within}
 use Rattle.postcard_wire.proofs.Numbers.{one_digit, more_digits}

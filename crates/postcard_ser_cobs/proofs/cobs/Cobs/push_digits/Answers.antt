@@ -1,6 +1,5 @@
 -- The digits of 0 are a zero, and a number has a digit, so that its varint is refused after a refusal.
-use Rattle.std.proofs.Common.{refl, rules, sym, [], ◌∷◌, ◌≡◌, subst}
-use Rattle.postcard_wire.specs.Number.{digits}
+use Rattle.std.proofs.Common.{rules}
 use Rattle.postcard_ser_cobs.proofs.NumberLemmas.{digits_some, digits_none}
 use Rattle.postcard_ser_cobs.proofs.cobs.Cobs.push_digits.Goals as goal
 

@@ -1,5 +1,5 @@
 -- The digits are a run: at most 10 bytes, none of them zero.
-use Rattle.std.proofs.Common.{◌++◌, ◌<◌, ◌+◌, ◌≤◌, length, length-append, refl, sym, ap, ◌∙◌, arith, rules}
+use Rattle.std.proofs.Common.{◌++◌, ◌<◌, ◌+◌, length, length-append, refl, sym, ap, ◌∙◌, arith, rules}
 use Rattle.std.proofs.Math.Logic.{∥∥₁_map}
 use Rattle.postcard_wire.specs.Number.{digits}
 use Rattle.postcard_wire.proofs.Writing.{few_64}
