@@ -23,6 +23,7 @@ impl<'de, T: FromRepr> Deserialize<'de> for T
 where
     T::As: Deserialize<'de>,
 {
+    #[inline(always)]
     fn deserialize<F: Flavor>(alloc: Global, d: &mut Deserializer<'de, F>) -> Result<Self> {
         let repr = <T::As as Deserialize<'de>>::deserialize(alloc, d)?;
         Ok(T::from_repr(repr))

@@ -30,6 +30,7 @@ impl<'de, F: Flavor> Deserializer<'de, F> {
     }
 
     /// Reads the content of a variant that has one part.
+    #[inline(always)]
     pub fn newtype_variant<T: Deserialize<'de>>(&mut self, alloc: Global) -> Result<T>
         ensures { Deserializes F.Flavor T.shape self.old result self.new }
     {

@@ -11,6 +11,7 @@ use std::alloc::Global;
 impl<'de, F: Flavor> Deserializer<'de, F> {
     /// Reads an option: the byte 0 for `None`, or the byte 1 and then the content. Also fails with
     /// `DeserializeBadOption` for any other byte, which is taken.
+    #[inline(always)]
     pub fn deserialize_option<T: Deserialize<'de>>(&mut self, alloc: Global) -> Result<Option<T>>
         ensures { DeserializesOption F.Flavor T.shape self.old result self.new }
     {

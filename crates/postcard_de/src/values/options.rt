@@ -12,6 +12,7 @@ use std::alloc::Global;
 /// Reads the byte 0 as `None`, and the byte 1 and then a value as `Some`. Fails with
 /// `DeserializeBadOption` at any other byte, and as reading the value does.
 impl<'de, T: Deserialize<'de>> Deserialize<'de> for Option<T> {
+    #[inline(always)]
     fn deserialize<F: Flavor>(
         alloc: Global,
         d: &mut Deserializer<'de, F>,
@@ -40,6 +41,8 @@ impl<T: DeserializeOwned> DeserializeOwned for Option<T> {
 /// Reads an enum: `Ok` at index 0, and `Err` at 1. Fails with `SerdeDeCustom` at any other index, and
 /// as reading the index or the content does.
 impl<'de, T: Deserialize<'de>, E: Deserialize<'de>> Deserialize<'de> for Result<T, E> {
+    // A content of two words passes through memory if it is returned by a call.
+    #[inline(always)]
     fn deserialize<F: Flavor>(
         alloc: Global,
         d: &mut Deserializer<'de, F>,
