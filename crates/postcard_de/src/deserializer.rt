@@ -159,6 +159,7 @@ impl<'de, F: Flavor> Deserializer<'de, F> {
     /// Reads a text: its length in bytes, and that many bytes of UTF-8. The text borrows from what
     /// the source borrows. Also fails with `DeserializeBadUtf8` if the bytes aren't UTF-8; they are
     /// taken then.
+    #[inline(always)]
     pub fn deserialize_str(&mut self) -> Result<&'de str>
         ensures { DeserializesNode F.Flavor lent_text_node self.old result self.new }
     {
