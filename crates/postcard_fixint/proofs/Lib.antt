@@ -1,4 +1,4 @@
 pub mod Bytes
 pub mod Spelled
 mod Bytewise
-mod Blocks
+mod Numbers

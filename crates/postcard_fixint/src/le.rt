@@ -4,11 +4,11 @@ ghost use Rattle.std.specs.Prelude.{◌≡◌, OnOk};
 ghost use Rattle.postcard_fixint.specs.{DeserializesNode, Wrote, fixed, fixed_node, little, never};
 
 use crate::array::ByteArray;
-use crate::block::{self, OfBytes};
 use crate::number::FixInt;
 use postcard_de::{Deserialize, DeserializeOwned, Deserializer};
 use postcard_ser::{Serialize, Serializer};
 use postcard_shape::Shaped;
+use postcard_shape::blocks::{self, OfBytes};
 use postcard_wire::Result;
 use std::alloc::Global;
 use std::marker::Model;
@@ -41,13 +41,18 @@ impl<T: FixInt> LE<T> {
 }
 
 impl<T: FixInt> OfBytes for LE<T> {
-    type Bytes = T::Bytes;
+    ghost size = { T.Bytes.size };
 
     ghost form = { fixed little T.width };
 
     #[inline(always)]
-    fn of_bytes(bytes: T::Bytes) -> Self {
-        LE(T::decode_le(bytes))
+    fn size() -> usize {
+        T::Bytes::size()
+    }
+
+    #[inline(always)]
+    fn from_front(bytes: &[u8]) -> Self {
+        LE(T::decode_le(T::Bytes::from_front(bytes)))
     }
 }
 
@@ -56,7 +61,7 @@ impl<T: FixInt> Shaped for LE<T> {
 
     #[inline(always)]
     fn append_at_hand(items: &mut Vec<Self>, bytes: &[u8], most: usize) -> Result<Option<usize>> {
-        block::append(items, bytes, most)
+        blocks::append(items, bytes, most)
     }
 }
 

@@ -22,7 +22,6 @@
 
 mod array;
 pub mod be;
-mod block;
 pub mod laws;
 pub mod le;
 mod number;

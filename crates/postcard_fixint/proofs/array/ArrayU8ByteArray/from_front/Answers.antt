@@ -1,6 +1,6 @@
 use Rattle.std.proofs.Common.{◌≡◌, ◌∙◌, length, take}
 use Rattle.std.proofs.lemmas.List.{length-take-le}
-use Rattle.postcard_fixint.proofs.Blocks.{array_value}
+use Rattle.postcard_shape.proofs.Counted.{array_value}
 use Rattle.postcard_fixint.proofs.array.ArrayU8ByteArray.from_front.Goals as goal
 
 pub returns : goal.returns
