@@ -19,7 +19,8 @@ pub fn copy(to: &mut [u8], from: &[u8])
     }
 }
 
-#[inline(never)]
+// Inlined, so that a piece whose length is known, such as a row of floats, takes moves, too.
+#[inline(always)]
 fn copy_long(to: &mut [u8], from: &[u8])
     requires { length to.old ≡ length from.now }
     ensures { to.new ≡ from.now }
