@@ -6,10 +6,11 @@ ghost use Rattle.postcard.specs.{Appends, Encodes, EncodesGrowing, IsErrorOf, Is
 ghost use Rattle.postcard.specs.Finished.{Finished};
 
 use crate::experimental::serialized_size;
+use crate::ser::fill_slice;
 use arrayvec::ArrayVec;
 use postcard_ser::{Serialize, Serializer};
 use postcard_ser_flavors::io::WriteFlavor;
-use postcard_ser_flavors::{AllocVec, ExtendBytes, ExtendFlavor, Flavor, HVec};
+use postcard_ser_flavors::{ExtendBytes, ExtendFlavor, Flavor, HVec};
 use postcard_wire::{Error, Result};
 use std::alloc::Global;
 use std::io::Write;
@@ -90,10 +91,11 @@ pub fn to_allocvec<T: Serialize>(alloc: Global, value: &T) -> Result<Vec<u8>>
         result }
 {
     let size = serialized_size(value)?;
-    let Ok(vec) = Vec::with_capacity(alloc, size) else {
+    let Ok(mut vec) = Vec::from_elem(alloc, 0, size) else {
         return Err(Error::SerializeBufferFull);
     };
-    serialize_with_flavor(value, AllocVec::from_vec(vec))
+    fill_slice(value, vec.as_mut_slice())?;
+    Ok(vec)
 }
 
 /// [`to_allocvec`] under the name that the Rust crate has for `std`.
