@@ -1,7 +1,7 @@
 -- Reading the elements of a list one by one.
 use Rattle.std.proofs.Common.{◌≡◌, ℕ, zero, suc, ◌+◌, ◌-◌, List, [], ◌∷◌, ◌++◌, length, Option, None}
 use Rattle.std.proofs.Common.{Ok, Err, Result, refl, ap, arith, append_assoc}
-use Rattle.std.proofs.Common.{append-nil, sym, subst, ◌∙◌}
+use Rattle.std.proofs.Common.{append-nil, sym, ◌∙◌}
 use Rattle.std.specs.Option.{IfNone}
 use Rattle.postcard_wire.specs.declared.error.Error.{Error}
 use Rattle.postcard_wire.specs.declared.error.Error.TheVariants.{OutOfMemory}
@@ -9,14 +9,7 @@ use Rattle.postcard_wire.specs.Tree.{Tree, Trees, NoTrees, Then}
 use Rattle.postcard_wire.specs.Spelling.{Spells, SpellsAll}
 use Rattle.postcard_de_flavors.specs.Source.{Left, CanTake, Takes, Laws}
 use Rattle.postcard_de_nodes.specs.Reads.{ReadsFrom}
-use Rattle.postcard_wire.specs.Number.{SpellsNum}
-use Rattle.postcard_wire.specs.Reading.{IsSeq}
-use Rattle.postcard_shape.specs.Leaves.{Same}
-use Rattle.postcard_shape.specs.Lists.{EachIs, ListIs, AreRead}
-use Rattle.postcard_shape.specs.Shape.{never}
-use Rattle.postcard_de_nodes.specs.CountLemmas.{list_read, list_refused}
-use Rattle.postcard_de_nodes.specs.NumberLemmas.{Below}
-use Rattle.postcard_de_nodes.specs.SeenLemmas.{recast, refused_too}
+use Rattle.postcard_shape.specs.Lists.{EachIs, AreRead}
 use Rattle.postcard_de_nodes.specs.TakeLemmas.{nothing_taken}
 use Rattle.postcard_de_nodes.specs.ReadLemmas.{refusal, out_of_memory}
 use Rattle.postcard_de_nodes.specs.CompoundLemmas.{Compound, first_refused, second_refused}
@@ -122,11 +115,6 @@ module _ {S V : Type 0} {left : S → Left} {able : S → ℕ → Type 0}
       ends (Ok vs) new h = h
       ends (Err e) new h = h
 
-  -- The same, where the number of the elements is written in another way.
-  pub going_all : {start : S} {all rest : ℕ} → all ≡ rest → Going left able may_leave R I H start all [] start rest
-  going_all {start} {all} {rest} e =
-      subst (λ (m : ℕ). Going left able may_leave R I H start all [] start m) e going
-
   -- It holds of the same elements and the same state.
   pub going_same : {start now now' : S} {all rest : ℕ} {items items' : List V} →
       (items' ≡ items) × (now' ≡ now) → Going left able may_leave R I H start all items now rest →
@@ -209,24 +197,6 @@ module _ {S V : Type 0} {left : S → Left} {able : S → ℕ → Type 0}
           CanTake left able now p → EachIs I ts [] × Takes left able now p now
       accepts NoTrees p a s c = (tt, rw s (nothing_taken now))
       accepts (Then t ts) p a s c = absurd (omega (arith, a.0))
-
-  -- If no element was read yet, reading all of them now ends as reading them from the start.
-  pub going_ends : {A : Type 0} (see : A → List V) {start now new : S} {all rest : ℕ} {items : List V} → items ≡ [] → rest ≡ all →
-      Going left able may_leave R I H start all items now rest → (r : Result A Error) →
-      ReadsFrom SpellsAll (AreRead all R) (λ ts x. EachIs I ts (see x)) H left able may_leave now r new →
-      ReadsFrom SpellsAll (AreRead all R) (λ ts x. EachIs I ts (see x)) H left able may_leave start r new
-  going_ends see {new = new} none whole so (Ok a) h =
-      recast {G = H} (λ ts i. i) (rw none at (so.ends (Ok (see a)) new (rw whole (recast {G = H} (λ ts i. i) h))))
-  going_ends see {new = new} none whole so (Err e) h =
-      refused_too {G = H} (λ ts a. a) (λ e h. h) (so.ends (Err e) new (rw whole (refused_too {G = H} (λ ts a. a) (λ e h. h) h)))
-
-  -- If the count was read, and then the elements or an error of them, the list was read, or fails with that error.
-  pub list_of : {A : Type 0} (see : A → List V) {old mid new : S} {n : ℕ} (r : Result A Error) →
-      ReadsFrom (SpellsNum 64) (Below 64) Same never left able may_leave old (Ok n) mid →
-      ReadsFrom SpellsAll (AreRead n R) (λ ts x. EachIs I ts (see x)) H left able may_leave mid r new →
-      ReadsFrom Spells (IsSeq R) (λ t x. ListIs I t (see x)) H left able may_leave old r new
-  list_of see (Ok a) counted h = list_read laws see a counted (recast (λ ts i. i) h)
-  list_of see (Err e) counted h = list_refused laws see counted (refused_too (λ ts a. a) (λ e h. h) h)
 
 -- A number that isn't 0 is the successor of its predecessor.
 pub one_more_left : (n : ℕ) → (n ≡ 0 → ⊥) → n ≡ suc (n - 1)

@@ -1,14 +1,13 @@
 -- What contracts see of a deserializer: its source, and what a call does that reads from it.
-use Rattle.std.specs.Prelude.{◌≡◌, ℕ, ◌-◌, ◌<◌, Option, None, Result, Ok, Err, IsOk, Vec}
+use Rattle.std.specs.Prelude.{◌≡◌, ℕ, ◌-◌, ◌<◌, Option, None, Result, Ok, Err, IsOk}
 use Rattle.postcard_wire.specs.Spelling.{Spells, SpellsAll}
 use Rattle.postcard_wire.specs.Tree.{Tree}
 use Rattle.postcard_wire.specs.declared.error.Error.{Error}
 use Rattle.postcard_wire.specs.declared.error.Error.TheVariants.{WontImplement}
 use Rattle.postcard_shape.specs.Cases.{Cases}
-use Rattle.postcard_shape.specs.Lists.{AreRead, EachIs}
 use Rattle.postcard_shape.specs.Options.{SomeIs}
 use Rattle.postcard_shape.specs.Rows.{Row}
-use Rattle.postcard_shape.specs.Shape.{Shape, or_memory}
+use Rattle.postcard_shape.specs.Shape.{Shape}
 use Rattle.postcard_de_flavors.specs.declared.flavor.Flavor.{Ghosts}
 use Rattle.postcard_de_nodes.specs.Nodes.{Node, ReadsNode, ReadsOption, ReadsResult}
 use Rattle.postcard_de_nodes.specs.Reads.{Reads, ReadsShape}
@@ -44,10 +43,6 @@ module _ {S M O : Type 0} (F : Ghosts S M O) where
   -- It reads the parts of that row.
   abbrev pub DeserializesParts : {V : Type 0} → Row V → Deserializer S M O → Result V Error → Deserializer S M O → Type 0
   DeserializesParts row d r d' = Reads F SpellsAll row.reads (λ ts v. row.value v ts) row.other (source_of d) r (source_of d')
-
-  -- It reads n elements of that shape, one after another, into a list.
-  abbrev pub DeserializesElements : {V A : Type 0} → Shape V → ℕ → Deserializer S M O → Result (Vec V A) Error → Deserializer S M O → Type 0
-  DeserializesElements shape n d r d' = Reads F SpellsAll (AreRead n shape.reads) (λ ts v. EachIs shape.value ts v.items) (or_memory shape.other) (source_of d) r (source_of d')
 
   -- It reads the content of the variant of that index.
   abbrev pub DeserializesCase : {V : Type 0} → Cases V → ℕ → Deserializer S M O → Result V Error → Deserializer S M O → Type 0

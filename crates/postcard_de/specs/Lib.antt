@@ -26,7 +26,7 @@ pub use Rattle.postcard_de.specs.NonZero.{non_zero_i64_node, non_zero_i8_node, n
 pub use Rattle.postcard_de.specs.NonZero.{non_zero_u128_node, non_zero_u16_node, non_zero_u32_node}
 pub use Rattle.postcard_de.specs.NonZero.{non_zero_u64_node, non_zero_u8_node, non_zero_usize_node}
 pub use Rattle.postcard_de.specs.Reads.{BeginsParts, Deserializes, DeserializesCase}
-pub use Rattle.postcard_de.specs.Reads.{DeserializesElements, DeserializesNext, DeserializesNode, DeserializesNothing}
+pub use Rattle.postcard_de.specs.Reads.{DeserializesNext, DeserializesNode, DeserializesNothing}
 pub use Rattle.postcard_de.specs.Reads.{DeserializesOption, DeserializesParts, DeserializesResult}
 pub use Rattle.postcard_de.specs.Reads.{IsUnsupported, boolean_node, byte_node, bytes_node}
 pub use Rattle.postcard_de.specs.Reads.{char_node, float_node, int_node, lent_bytes_node}

@@ -2,7 +2,7 @@
 -- `postcard_de_nodes` on what a call does that reads, and on the kinds of nodes, under one path of this crate.
 pub use Rattle.postcard_de.specs.Deserializer.{source_of, Deserializes, DeserializesNode, DeserializesOption}
 pub use Rattle.postcard_de.specs.Deserializer.{DeserializesResult, DeserializesTree, DeserializesParts}
-pub use Rattle.postcard_de.specs.Deserializer.{DeserializesCase, DeserializesElements, DeserializesNext, DeserializesNothing}
+pub use Rattle.postcard_de.specs.Deserializer.{DeserializesCase, DeserializesNext, DeserializesNothing}
 pub use Rattle.postcard_de.specs.Deserializer.{BeginsParts, IsUnsupported}
 pub use Rattle.postcard_de_nodes.specs.Reads.{IsReadError, Gives, ReadsFrom, Reads, ReadsShape}
 pub use Rattle.postcard_de_nodes.specs.Nodes.{Node, ReadsNode, ReadsOption, ReadsResult}

@@ -2,7 +2,7 @@
 //! They fail with `OutOfMemory` if an allocation fails.
 
 ghost use Rattle.std.specs.Prelude.{◌≡◌, [], ◌∷◌, ◌++◌, OnOk, IsOkUnless};
-ghost use Rattle.postcard_de.specs.{Deserializes, DeserializesElements};
+ghost use Rattle.postcard_de.specs.{Deserializes};
 
 use crate::deserializer::Deserializer;
 use crate::read_element::ReadElement;
@@ -13,9 +13,6 @@ use postcard_shape::Shaped;
 use postcard_wire::{Error, Result};
 use std::alloc::Global;
 use std::collections::{BTreeMap, BTreeSet};
-
-/// The most elements of a list that asks for memory for all of them at once.
-const FEW: usize = 31;
 
 /// Appends an element to a list that is to get `announced` more elements, this one included, or
 /// fails with `OutOfMemory`.
@@ -64,36 +61,8 @@ impl<'de, F: Flavor> Deserializer<'de, F> {
             if appended {
                 continue;
             }
-            if left == count && count <= FEW.min(first) {
-                return self.few::<T, E>(alloc, count);
-            }
             let item = E::read_element(alloc, self)?;
             push_announced(&mut items, item, first, left)?;
-        }
-        Ok(items)
-    }
-
-    /// Reads `count` elements one by one into a list that asks for memory once, for all of them.
-    #[inline(always)]
-    fn few<T: Shaped + Drop, E: ReadElement<'de, T>>(
-        &mut self,
-        alloc: Global,
-        count: usize,
-    ) -> Result<Vec<T>>
-        ensures { DeserializesElements F.Flavor T.shape count self.old result self.new }
-    {
-        if count == 0 {
-            return Ok(Vec::new(alloc));
-        }
-        let item = E::read_element(alloc, self)?;
-        let Ok(room) = Vec::with_capacity(alloc, count) else {
-            return Err(Error::OutOfMemory);
-        };
-        let mut items = room;
-        items.push_reserved(item);
-        'elements: while items.len() < count {
-            let item = E::read_element(alloc, self)?;
-            items.push_reserved(item);
         }
         Ok(items)
     }

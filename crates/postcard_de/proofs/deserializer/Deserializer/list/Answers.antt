@@ -1,8 +1,7 @@
-use Rattle.std.proofs.Common.{◌≡◌, suc, ◌-◌, ◌+◌, ◌∷◌, [], List, Vec, Global, vec_len, length, arith, ap, length-append, ◌∙◌}
-use Rattle.std.proofs.lemmas.List.{nil_from_length}
+use Rattle.std.proofs.Common.{◌≡◌, suc, ◌-◌, ◌+◌, ◌∷◌, [], List, Vec, Global, vec_len, length, arith, ap, length-append}
 use Rattle.postcard_de_nodes.specs.ErrorLemmas.{with_memory}
 use Rattle.postcard_de_nodes.specs.ReadLemmas.{is_refusal}
-use Rattle.postcard_de.proofs.Lists.{going, going_same, goes_on, goes_on_by, going_stops, going_full, going_done, going_ends, list_of}
+use Rattle.postcard_de.proofs.Lists.{going, going_same, goes_on, goes_on_by, going_stops, going_full, going_done}
 use Rattle.postcard_de_nodes.specs.CountLemmas.{list_read, list_refused, count_refused}
 use Rattle.postcard_de.proofs.deserializer.Deserializer.list.Goals as goal
 
@@ -58,19 +57,6 @@ elements-smaller-then-appended g c =
     let grown = ap (λ (z : List g.row.T.Denot). length z) read.1 in
     let sum = length-append old.items read.0 in
     omega (arith, old.ok.0, new.ok.0, grown, sum, read.2, read.3, c.elements-test.true)
-
-pub returns-then-count-min : goal.returns-then-count-min
-returns-then-count-min g c =
-    let laws = g.F.Flavor.lawful in
-    let n = c.in_ok-count.count in
-    let items = c.elements.items in
-    let same = rw c.if-appended.false at c.in_ok-appended.ensures.reads in
-    let zero : vec_len items ≡ 0 = omega (arith, c.if-left-count.true, c.elements-test.true) in
-    let none : items.items ≡ [] = nil_from_length items.items (omega (arith, items.ok.0, zero)) in
-    let whole : n - vec_len items ≡ n = omega (arith, zero) in
-    let see = λ (v : Vec g.row.T.Denot Global). v.items in
-    list_of laws see c.few.result c.in_ok-count.ensures.reads
-    (going_ends laws see (same.0 ∙ none) whole (going_same laws same c.elements.invariant.so) c.few.result c.few.ensures)
 
 pub returns-in_err-item : goal.returns-in_err-item
 returns-in_err-item g c =
