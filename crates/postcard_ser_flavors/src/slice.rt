@@ -6,7 +6,6 @@ ghost use Rattle.postcard_ser_flavors.specs.{digits, held, slice_lawful};
 ghost use Rattle.postcard_ser_flavors.specs.Slice.{Appended};
 
 use crate::flavor::Flavor;
-use crate::short::copy;
 use postcard_memory::{Life, Memory};
 use postcard_wire::varint::{len_u64, write_u64};
 use postcard_wire::{Error, Result};
@@ -106,7 +105,6 @@ impl<'a> Flavor for Slice<'a> {
         Ok(())
     }
 
-    #[inline(always)]
     fn try_extend(&mut self, bytes: &[u8]) -> Result<()>
         ensures { PushedToSlice ⟦<Self as Flavor>⟧ self.old bytes.now result self.new }
     {
@@ -116,7 +114,7 @@ impl<'a> Flavor for Slice<'a> {
         let len = self.len;
         let start = self.position;
         let all = self.memory.lend(self.life, len);
-        copy(&mut all[start..start + bytes.len()], bytes);
+        all[start..start + bytes.len()].copy_from_slice(bytes);
         self.position += bytes.len();
         Ok(())
     }
