@@ -166,8 +166,8 @@ impl<B: Storage + Drop> Cobs<B> {
         Ok(place + count)
     }
     /// Takes bytes of data piece by piece. Each run of bytes between zeros goes to the storage in
-    /// one piece, and so do bytes that are dense with zeros, but each piece ends where a group of
-    /// 254 bytes is full. Fails as `try_extend` does.
+    /// one piece. So do bytes that are dense with zeros. Each piece ends where a group of 254 bytes
+    /// is full. Fails as `try_extend` does.
     #[inline(never)]
     pub(super) fn push_pieces(&mut self, bytes: &[u8]) -> Result<()>
         ensures pushed { PushedBy ⟦<Self as Flavor>⟧ self.old bytes.now result self.new }
