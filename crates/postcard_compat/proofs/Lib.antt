@@ -7,3 +7,8 @@ pub mod Consequences
 pub mod Fronts
 pub mod ByKind
 pub mod Flattening
+pub mod Messages
+pub mod Telling
+pub mod LeafWords
+pub mod Verdicts
+pub mod Equality

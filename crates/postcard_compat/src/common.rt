@@ -16,6 +16,15 @@ use std::alloc::{AllocError, Global};
 /// # Errors
 ///
 /// Fails if an allocation fails.
+///
+/// # Examples
+///
+/// ```rust
+/// let old = parse(rt.alloc(), "{id: u32, level: u16}").expect(&rt, "a type");
+/// let new = parse(rt.alloc(), "{id: u16, level: u32}").expect(&rt, "a type");
+/// let joined = both(rt.alloc(), &old, &new)?;
+/// assert!(rt; joined.is_some());
+/// ```
 pub fn both(alloc: Global, old: &Schema, new: &Schema) -> Result<Option<Schema>, AllocError>
     ensures { IfOk result (λ found. IfSome found (λ joined.
         Serves (type_of joined) (type_of old.now) × Serves (type_of joined) (type_of new.now))) }
@@ -33,7 +42,7 @@ pub fn both(alloc: Global, old: &Schema, new: &Schema) -> Result<Option<Schema>,
 /// Returns the new type with the wider of each two integers, and the further variants of the old
 /// type. Where the types differ otherwise, the new type stands.
 #[cycle(join)]
-fn join(alloc: Global, new: &Schema, old: &Schema) -> Result<Schema, AllocError> {
+pub(crate) fn join(alloc: Global, new: &Schema, old: &Schema) -> Result<Schema, AllocError> {
     match (new, old) {
         (Schema::Leaf(new), Schema::Leaf(old)) => Ok(Schema::Leaf(wider(*new, *old))),
         (Schema::Option(new), Schema::Option(old)) => Ok(Schema::Option(boxed(alloc, new, old)?)),

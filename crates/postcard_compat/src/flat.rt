@@ -24,6 +24,14 @@ const MAX_PARTS: usize = 64;
 /// # Errors
 ///
 /// Fails if an allocation fails.
+///
+/// # Examples
+///
+/// ```rust
+/// let nested = parse(rt.alloc(), "{pos: {lat: i32, lon: i32}, on: bool}").expect(&rt, "a type");
+/// let row = parse(rt.alloc(), "(i32, i32, bool)").expect(&rt, "a type");
+/// assert!(rt; serves(&row, &flattened(rt.alloc(), &nested)?));
+/// ```
 #[cycle(flattened)]
 pub fn flattened(alloc: Global, schema: &Schema) -> Result<Schema, AllocError>
     ensures { IfOk result (λ flat. Serves (type_of flat) (type_of schema.now)

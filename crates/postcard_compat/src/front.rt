@@ -13,6 +13,14 @@ use postcard_schema::Schema;
 ///
 /// The new type may lack the last parts of the old one. Each of its parts serves the one at its
 /// place.
+///
+/// # Examples
+///
+/// ```rust
+/// let old = parse(rt.alloc(), "{id: u16, on: bool}").expect(&rt, "a type");
+/// let new = parse(rt.alloc(), "{id: u32}").expect(&rt, "a type");
+/// assert!(rt; serves_front(&old, &new));
+/// ```
 pub fn serves_front(old: &Schema, new: &Schema) -> bool
     ensures { result ≡ true → ServesFront (type_of new.now) (type_of old.now) }
 {

@@ -10,26 +10,41 @@
 //!
 //! [`both`] finds a type that reads the messages of two versions. The [`laws`] say what follows for
 //! the bytes. `specs/Said.antt` defines what a message says, and `specs/Serving.antt` when a type
-//! serves another. Names take no bytes, so they aren't compared.
+//! serves another. Names take no bytes, so these calls don't compare them.
+//!
+//! [`compare`] takes all of these steps. It returns a verdict, the [`differences`] with their paths,
+//! and an [`Example`]: a message of the old type, and what the new type makes of it. It compares names,
+//! too. `specs/Comparing.antt` defines what a verdict means.
 #![tactic(auto)]
 
 ghost use Rattle.std.specs.Prelude.{◌≡◌, true};
 ghost use Rattle.postcard_compat.specs.{Serves, VariantsServe, contents, parts_of, type_of};
 ghost use Rattle.postcard_compat.specs.{types_of};
 
+mod candidates;
+pub mod change;
 pub mod common;
+pub mod comparison;
+pub mod example;
 pub mod flat;
 pub mod front;
 pub mod laws;
 mod numbers;
 mod row;
+pub mod walk;
+pub mod word;
 
+pub use change::{Change, Difference, Kind, Turn, Variant};
 pub use common::both;
+pub use comparison::{Comparison, Verdict, compare};
+pub use example::{Example, Reading, example_of};
 pub use flat::flattened;
 pub use front::serves_front;
 use numbers::leaf_serves;
 use postcard_schema::{Named, Schema};
 use row::{Row, option_content};
+pub use walk::{Changes, differences};
+pub use word::{Word, words};
 
 /// Returns `true` if the new type reads every message of the old one, in every encoding, as a
 /// message that says the same. `false` promises nothing.
@@ -37,6 +52,15 @@ use row::{Row, option_content};
 /// Integers may become wider, and an enum may have more variants. An option may become an enum: its
 /// first variant has no bytes, and its second variant has the value. Structs and tuples are compared
 /// by their parts. The rest of the two types must be equal.
+///
+/// # Examples
+///
+/// ```rust
+/// let old = parse(rt.alloc(), "{id: u16, on: bool}").expect(&rt, "a type");
+/// let new = parse(rt.alloc(), "{id: u32, on: bool}").expect(&rt, "a type");
+/// assert!(rt; serves(&old, &new));
+/// assert!(rt; !serves(&new, &old));
+/// ```
 #[cycle(serves)]
 pub fn serves(old: &Schema, new: &Schema) -> bool
     ensures { result ≡ true → Serves (type_of new.now) (type_of old.now) }
