@@ -1,7 +1,7 @@
 -- Types with the same messages, by their kind.
-use Rattle.std.proofs.Common.{◌≡◌, ℕ, List, [], ◌∷◌, ◌++◌, ◌∙◌, subst}
+use Rattle.std.proofs.Common.{◌≡◌, ℕ, List, [], ◌∷◌, ◌∙◌, subst}
 use Rattle.std.specs.List.{AllZip}
-use Rattle.postcard_wire.specs.Tree.{Tree, Trees}
+use Rattle.postcard_wire.specs.Tree.{Trees}
 use Rattle.postcard_schema.specs.Meaning.{MessageType, option, seq, array, group, choice, row_of, reads, reads_all, reads_at}
 use Rattle.postcard_compat.specs.Said.{Word, said, said_all, said_at}
 use Rattle.postcard_compat.specs.Serving.{RowServes, SameMessages, SameRows, VariantsServe}

@@ -1,5 +1,5 @@
 -- Lists of words that say the same have equal words at each place.
-use Rattle.std.proofs.Common.{◌≡◌, ℕ, zero, suc, ◌<◌, List, [], ◌∷◌, length, get_or, map, sym, ap, ◌∙◌, arith}
+use Rattle.std.proofs.Common.{◌≡◌, ℕ, zero, suc, ◌<◌, List, [], ◌∷◌, length, get_or, sym, ap, ◌∙◌, arith}
 use Rattle.std.proofs.lemmas.List.{length-map}
 use Rattle.postcard_compat.specs.Telling.{word_of, words_of}
 use Rattle.postcard_compat.specs.Said.{Word, End}

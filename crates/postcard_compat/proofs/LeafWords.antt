@@ -1,7 +1,7 @@
 -- The words of values without parts.
-use Rattle.std.proofs.Common.{◌≡◌, ℕ, suc, ◌+◌, ◌*◌, ◌-◌, ◌%◌, ◌^◌, ◌<◌, ◌≤◌, pos, negsuc, List, [], ◌∷◌, map, refl, sym, ap, ◌∙◌, arith}
+use Rattle.std.proofs.Common.{◌≡◌, ℕ, suc, ◌+◌, ◌*◌, ◌-◌, ◌%◌, ◌^◌, ◌<◌, ◌≤◌, pos, negsuc, [], ◌∷◌, map, refl, sym, ap, ◌∙◌, arith}
 use Rattle.std.proofs.lemmas.Bool.Decides.{nat_tests}
-use Rattle.postcard_wire.specs.Tree.{Byte, Group, trees}
+use Rattle.postcard_wire.specs.Tree.{Byte, trees}
 use Rattle.postcard_schema.specs.declared.leaf.ByteOrder.{ByteOrder}
 use Rattle.postcard_schema.specs.declared.leaf.Integer.{Integer}
 use Rattle.postcard_schema.specs.declared.leaf.Integer.TheVariants.{U8, U16, U32, U64, U128, I8, I16, I32, I64, I128}

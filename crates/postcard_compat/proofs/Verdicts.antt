@@ -1,9 +1,7 @@
 -- What verdicts rest on.
 use Rattle.std.proofs.Common.{◌≡◌, ℕ, List, [], ◌++◌, Option, Some, IfSome, sym, ap, subst, ◌∙◌, append_assoc, append-nil}
-use Rattle.postcard_wire.specs.Tree.{Tree}
-use Rattle.postcard_wire.specs.Spelling.{Spells}
 use Rattle.postcard_schema.specs.declared.schema.Schema.{Schema}
-use Rattle.postcard_schema.specs.Meaning.{MessageType, reads, type_of}
+use Rattle.postcard_schema.specs.Meaning.{MessageType, type_of}
 use Rattle.postcard_value.specs.TypeLaws.{type_delimited}
 use Rattle.postcard_compat.specs.Comparing.{IsCompared, Means, NeverMisreads, Relates}
 use Rattle.postcard_compat.specs.Examples.{IsExample}

@@ -329,15 +329,11 @@ fn make_variant(
 }
 
 fn make_leaf(maker: &mut Maker, leaf: Leaf, is_telling: bool) -> Result<Value, AllocError> {
-    let telling = maker.telling;
     match leaf {
         Leaf::Bool => {
-            let index = if is_telling {
-                telling
-            } else {
-                maker.pick(2) + 1
-            };
-            Ok(Value::Bool(index % 2 == 0))
+            let is_even = chosen(maker, 2, is_telling) % 2 == 0;
+            // The first telling value is `true`, and the least value `false`.
+            Ok(Value::Bool(is_even == is_telling))
         }
         Leaf::Integer(integer) => {
             let bits = number_bits(maker, integer.size(), is_telling);
@@ -348,32 +344,29 @@ fn make_leaf(maker: &mut Maker, leaf: Leaf, is_telling: bool) -> Result<Value, A
             Ok(Value::Fixed(order, integer, bits))
         }
         Leaf::Float(float) => {
-            let index = if is_telling {
-                telling
-            } else {
-                maker.pick(FLOATS.len())
-            };
+            let index = chosen(maker, FLOATS.len(), is_telling);
             Ok(Value::Float(float, FLOATS[index % FLOATS.len()]))
         }
         Leaf::Char => {
-            let index = if is_telling {
-                telling
-            } else {
-                maker.pick(CHARS.len())
-            };
+            let index = chosen(maker, CHARS.len(), is_telling);
             Ok(Value::Char(CHARS[index % CHARS.len()]))
         }
         Leaf::Str => {
-            let index = if is_telling {
-                telling
-            } else {
-                maker.pick(TEXTS.len())
-            };
+            let index = chosen(maker, TEXTS.len(), is_telling);
             let text = String::from_str(maker.alloc, TEXTS[index % TEXTS.len()])?;
             Ok(Value::Str(text))
         }
         // A flattened type has lists of `u8` in place of byte strings.
         Leaf::Bytes => Ok(Value::Bytes(Vec::new(maker.alloc))),
+    }
+}
+
+/// Returns the number of a telling value, or the index with which one of `count` values is filled.
+fn chosen(maker: &mut Maker, count: usize, is_telling: bool) -> usize {
+    if is_telling {
+        maker.telling
+    } else {
+        maker.pick(count)
     }
 }
 

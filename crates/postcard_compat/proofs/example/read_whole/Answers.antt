@@ -1,5 +1,5 @@
 -- No other bytes encode a message: encodings are prefix-free.
-use Rattle.std.proofs.Common.{rules, ap, length, arith}
+use Rattle.std.proofs.Common.{rules, arith}
 use Rattle.std.proofs.lemmas.Grind.{common_steps}
 use Rattle.postcard_schema.specs.Meaning.{type_of}
 use Rattle.postcard_value.specs.Fronts.{HasNone}

@@ -1,5 +1,5 @@
 -- No parts, and an array that is kept.
-use Rattle.std.proofs.Common.{◌≡◌, ◌∷◌, [], length, ap, sym, subst, arith}
+use Rattle.std.proofs.Common.{◌≡◌, ◌∷◌, [], length, sym, subst, arith}
 use Rattle.std.proofs.lemmas.Grind.{common_steps}
 use Rattle.std.proofs.lemmas.Result.{IfOk-weaker}
 use Rattle.postcard_schema.specs.Meaning.{array, group, row_of}

@@ -1,5 +1,5 @@
 -- A struct is its row, and one part is the row of that part.
-use Rattle.std.proofs.Common.{◌≡◌, ◌++◌, ◌∷◌, [], length, arith}
+use Rattle.std.proofs.Common.{◌≡◌, length, arith}
 use Rattle.postcard_compat.proofs.Flattening.{only_same, struct_same}
 use Rattle.postcard_compat.proofs.flat.grouped.Goals as goal
 

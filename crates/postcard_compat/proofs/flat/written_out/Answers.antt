@@ -1,5 +1,5 @@
 -- Element after element.
-use Rattle.std.proofs.Common.{◌≡◌, ◌∷◌, [], replicate, ap, sym, subst, arith}
+use Rattle.std.proofs.Common.{◌≡◌, ◌∷◌, [], replicate, sym, subst, arith}
 use Rattle.postcard_schema.specs.Meaning.{array, group, row_of}
 use Rattle.postcard_compat.specs.Parts.{part_types}
 use Rattle.postcard_compat.specs.Serving.{SameRows}

@@ -1,5 +1,5 @@
 -- A byte string is a list of bytes; and what a value without parts says is one word.
-use Rattle.std.proofs.Common.{◌≡◌, ◌∷◌, [], ◌++◌, length, map, OnOk, sym, ap, ap₂, subst, ◌∙◌, arith, rules}
+use Rattle.std.proofs.Common.{◌≡◌, ◌∷◌, ◌++◌, length, map, OnOk, sym, ap, ap₂, subst, ◌∙◌, arith, rules}
 use Rattle.std.proofs.lemmas.Grind.{common_steps}
 use Rattle.std.proofs.lemmas.List.{length-map}
 use Rattle.postcard_wire.specs.Tree.{Byte, trees}
@@ -8,7 +8,7 @@ use Rattle.postcard_schema.specs.declared.leaf.Integer.TheVariants.{U8}
 use Rattle.postcard_schema.specs.declared.leaf.Leaf.TheVariants as leaves
 use Rattle.postcard_value.specs.Tree.{tree}
 use Rattle.postcard_value.specs.declared.value.Value.{Bytes, the_lemmas}
-use Rattle.postcard_compat.specs.Telling.{Appends, word_of, words_of}
+use Rattle.postcard_compat.specs.Telling.{Appends, words_of}
 use Rattle.postcard_compat.specs.Said.{Count, each_said, integer_said, leaf_said}
 use Rattle.postcard_compat.proofs.Telling.{count_trees, pushed}
 use Rattle.postcard_compat.proofs.word.leaf.say_leaf.Goals as goal
