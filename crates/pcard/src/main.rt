@@ -1,7 +1,7 @@
 //! The program `pcard`, which encodes a value in the Postcard format, decodes and explains bytes,
-//! decodes a stream of frames, and prints sizes, checksums and the impls of a file's types. The
-//! library `pcard_calls` does its work, `pcard_files` reads types and bytes from files, and
-//! `pcard_impl` makes impls.
+//! decodes a stream of frames, compares two versions of a type, and prints sizes, checksums and the
+//! impls of a file's types. The library `pcard_calls` does its work, `pcard_files` reads types and
+//! bytes from files, `pcard_compat` compares types, and `pcard_impl` makes impls.
 #![tactic(auto)]
 
 use pcard_calls::report;
@@ -49,10 +49,15 @@ fn print_impls<W: Write>(rt: &HostRuntime, path: &str, output: &mut W) -> u8 {
 
 /// Does the call of these words, which prints to `output`, and returns the exit status.
 fn do_call<W: Write>(rt: &HostRuntime, words: &mut [String], output: &mut W) -> u8 {
-    if let [command, path] = &*words {
-        if command.as_str() == "impl" {
+    match &*words {
+        [command, path] if command.as_str() == "impl" => {
             return print_impls(rt, path.as_str(), output);
         }
+        [command, operands @ ..] if command.as_str() == "compat" => {
+            let mut errors = rt.stderr();
+            return pcard_compat::answer(rt.alloc(), operands, &Disk(rt), output, &mut errors);
+        }
+        _ => {}
     }
     let mut input = Plain::new(rt.stdin());
     run(

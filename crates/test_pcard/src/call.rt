@@ -2,6 +2,7 @@
 
 use crate::call_error::CallError;
 use crate::words::words_of;
+use pcard_compat::answer;
 use pcard_files::{Disk, run};
 use std::alloc::{AllocError, Global};
 use std::fmt;
@@ -80,14 +81,19 @@ fn output_of(rt: &HostRuntime, text: &str) -> Result<String, CallError> {
     let bytes = bytes_of(alloc, &digits)?;
     let mut printed = Vec::new(alloc);
     let mut errors = Vec::new(alloc);
-    let status = run(
-        alloc,
-        words.as_mut_slice(),
-        &Disk(rt),
-        &mut bytes.as_slice(),
-        &mut printed,
-        &mut errors,
-    );
+    let status = match words.as_slice() {
+        [verb, operands @ ..] if verb.as_str() == "compat" => {
+            answer(alloc, operands, &Disk(rt), &mut printed, &mut errors)
+        }
+        _ => run(
+            alloc,
+            words.as_mut_slice(),
+            &Disk(rt),
+            &mut bytes.as_slice(),
+            &mut printed,
+            &mut errors,
+        ),
+    };
     let output = shown(alloc, printed)?;
     let Ok(told) = String::from_utf8(errors) else {
         return Err(CallError::NoText);

@@ -1,0 +1,23 @@
+-- The text whose expression is read is the word, or the one that a file declares.
+use Rattle.std.proofs.Common.{inl, inr, refl}
+use Rattle.pcard_compat.proofs.type_word.type_of_word.Goals as goal
+
+pub returns-in-Ok-clause-found : goal.returns-in-Ok-clause-found
+returns-in-Ok-clause-found g c = (c.args.word.now, inl (c.in_default.ensures.none, refl), c.in-Ok.ensures.spelled)
+
+pub returns-in-Err-clause-refused : goal.returns-in-Err-clause-refused
+returns-in-Err-clause-refused g c = (c.args.word.now, inl (c.in_default.ensures.none, refl), c.in-Err.ensures.refused)
+
+pub returns-in-Ok-schema_of-clause-found : goal.returns-in-Ok-schema_of-clause-found
+returns-in-Ok-schema_of-clause-found g c = (
+  c.as_str.result.now,
+  inr (c.in-Some.name.file.now, c.in-Some.name.name.now, c.in-Some.ensures.found, rw c.as_str.ensures.value c.in-Ok-expression.ensures.declared),
+  c.in-Ok-schema_of.ensures.spelled,
+)
+
+pub returns-clause-refused : goal.returns-clause-refused
+returns-clause-refused g c = (
+  c.as_str.result.now,
+  inr (c.in-Some.name.file.now, c.in-Some.name.name.now, c.in-Some.ensures.found, rw c.as_str.ensures.value c.in-Ok-expression.ensures.declared),
+  c.in-Err-schema_of.ensures.refused,
+)
