@@ -79,10 +79,9 @@ fn perform<W: Write>(rt: &HostRuntime, output: &mut W) -> u8 {
 }
 
 fn main(rt: HostRuntime) -> ExitCode {
-    // If the buffer can't be allocated, the output is written without one.
     let status = match BufWriter::new(rt.alloc(), rt.stdout()) {
         Ok(mut output) => perform(&rt, &mut output),
-        Err(_) => perform(&rt, &mut rt.stdout()),
+        Err(error) => report(Err(Failure::from(error)), &mut rt.stdout()),
     };
     ExitCode::from(status)
 }
