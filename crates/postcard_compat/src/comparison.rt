@@ -8,7 +8,7 @@ use crate::candidates::{Messages, candidates};
 use crate::change::Difference;
 use crate::common::{both, join};
 use crate::example::{Example, Reading, example_of};
-use crate::flat::flattened;
+use crate::flat::{flattened, named_row};
 use crate::front::serves_front;
 use crate::serves;
 use crate::walk::{Changes, differences};
@@ -94,9 +94,11 @@ pub fn compare(alloc: Global, old: &Schema, new: &Schema) -> Result<Comparison, 
 {
     let flat_old = flattened(alloc, old)?;
     let flat_new = flattened(alloc, new)?;
-    let Changes { differences, notes } = differences(alloc, &flat_old, &flat_new)?;
     let relation = relation_of(alloc, &flat_old, &flat_new)?;
-    let example = example_for(alloc, old, new, relation, &flat_old, &differences)?;
+    let old_row = named_row(alloc, old)?;
+    let new_row = named_row(alloc, new)?;
+    let Changes { differences, notes } = differences(alloc, &old_row, &new_row)?;
+    let example = example_for(alloc, old, new, relation, &old_row, &differences)?;
     let verdict = verdict_of(alloc, old, new, relation, &differences, &example)?;
     Ok(Comparison {
         verdict,
@@ -228,14 +230,14 @@ fn outcome_of(
     }
 }
 
-/// Returns an example of two types, of which the flattened old one is passed, too. Returns `None` if
-/// the new type reads each message as the same, or if none is found.
+/// Returns an example of two types, for the row of the old one. Returns `None` if the new type reads
+/// each message as the same, or if none is found.
 fn example_for(
     alloc: Global,
     old: &Schema,
     new: &Schema,
     relation: Relation,
-    flat_old: &Schema,
+    old_row: &Schema,
     differences: &Vec<Difference>,
 ) -> Result<Option<Example>, AllocError>
     ensures { IfOk result (λ found. IfSome found (IsExample (type_of old.now) (type_of new.now))) }
@@ -244,7 +246,7 @@ fn example_for(
     if matches!(relation, Relation::Same) && !moved {
         return Ok(None);
     }
-    let messages = candidates(alloc, flat_old, differences)?;
+    let messages = candidates(alloc, old_row, differences)?;
     search(alloc, old, new, &messages, moved, wanted(relation, moved))
 }
 

@@ -49,6 +49,12 @@ fn boxed(alloc: Global, schema: &Schema) -> Result<Box<Schema>, AllocError>
     Ok(Box::new(alloc, flat)?)
 }
 
+/// Returns the row of a type as a struct, of one part, too. The part keeps its path so.
+pub(crate) fn named_row(alloc: Global, schema: &Schema) -> Result<Schema, AllocError> {
+    let row = flat_row(alloc, schema)?;
+    Ok(Schema::Struct(row))
+}
+
 /// Returns the parts of a type in one row, under their paths.
 #[cycle(flattened)]
 fn flat_row(alloc: Global, schema: &Schema) -> Result<Vec<Named<Schema>>, AllocError>

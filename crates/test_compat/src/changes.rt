@@ -3,7 +3,7 @@
 use crate::rows::{Row, check};
 use postcard_compat::Verdict::{Differs, Front, Misread, Refuses, Same};
 
-const CHANGES: [Row<'static>; 31] = [
+const CHANGES: [Row<'static>; 32] = [
     (
         "{id: u32, t: i16}",
         "{id: u32, temp: i16}",
@@ -33,8 +33,15 @@ const CHANGES: [Row<'static>; 31] = [
     (
         "{id: u32}",
         "{v: u8, id: u32}",
-        (Misread, "the value: u32 is read as u8"),
-        (Misread, "v: u8 is read as u32"),
+        (Misread, "id: is read as v"),
+        (Misread, "v: is read as id"),
+    ),
+    // A struct of one field keeps its name.
+    (
+        "{b: u8, a: u8}",
+        "{a: u8}",
+        (Differs, "b: is read as a"),
+        (Differs, "a: is read as b"),
     ),
     (
         "[{id: u32}]",
