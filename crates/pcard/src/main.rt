@@ -81,7 +81,8 @@ fn perform<W: Write>(rt: &HostRuntime, output: &mut W) -> u8 {
 fn main(rt: HostRuntime) -> ExitCode {
     let status = match BufWriter::new(rt.alloc(), rt.stdout()) {
         Ok(mut output) => perform(&rt, &mut output),
-        Err(error) => report(Err(Failure::from(error)), &mut rt.stdout()),
+        // Making the buffer fails only if its allocation does.
+        Err(_) => report(Err(Failure::from(AllocError)), &mut rt.stdout()),
     };
     ExitCode::from(status)
 }
