@@ -4,7 +4,7 @@
 /// algorithms", 1993. Its checksums are of the type `W`, `u8` to `u128`.
 #[derive(Clone, Copy)]
 pub struct Algorithm<W> {
-    /// The number of bits of a checksum, at least 1 and at most as many as `W` has.
+    /// The number of bits of a checksum, from 1 to the number of bits of `W`.
     pub width: u8,
     /// The generator without its highest power: bit `i` is the coefficient of x^i.
     pub poly: W,

@@ -51,7 +51,7 @@ pub struct Label<'a> {
     pub text: &'a str,
     /// The values.
     pub values: Vec<u16>,
-    /// Seconds since 1970, in four bytes: a varint of so many has five.
+    /// Seconds since 1970, in four bytes: a varint of today's number has five.
     pub at: LE<u32>,
 }
 

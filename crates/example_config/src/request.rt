@@ -21,7 +21,7 @@ pub enum Request<T> {
     Set(T),
     /// Take none outside these two.
     Limit(T, T),
-    /// Change it by so many steps.
+    /// Change it by a number of steps.
     Step(i16),
 }
 

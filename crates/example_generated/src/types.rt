@@ -24,7 +24,7 @@ pub struct Position {
     pub altitude: i16,
 }
 
-/// What fell in so many seconds, if it was measured.
+/// What fell in a number of seconds, if it was measured.
 #[derive(Debug, Drop)]
 pub struct Rain(pub u32, pub Option<Millimetres>);
 

@@ -1,7 +1,7 @@
-//! The program `pcard`, which encodes a value in the Postcard format, decodes and explains bytes,
-//! decodes a stream of frames, compares two versions of a type, and prints sizes, checksums and the
-//! impls of a file's types. The library `pcard_calls` does its work, `pcard_files` reads types and
-//! bytes from files, `pcard_compat` compares types, and `pcard_impl` makes impls.
+//! The program `pcard`. It encodes a value in the Postcard format, decodes and explains bytes, and
+//! decodes a stream of frames. It compares two versions of a type, and prints sizes, checksums and
+//! the impls of a file's types. The library `pcard_calls` does its work, `pcard_files` reads types
+//! and bytes from files, `pcard_compat` compares types, and `pcard_impl` makes impls.
 #![tactic(auto)]
 
 use pcard_calls::report;

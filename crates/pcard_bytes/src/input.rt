@@ -9,7 +9,7 @@ use std::alloc::{AllocError, Global};
 /// The most bytes of one read.
 const CHUNK: usize = 65_536;
 
-/// The most reads of an input. It only ends the loop: no input has so many bytes.
+/// The most reads of an input. It only ends the loop: no input has that many bytes.
 pub const READS: u64 = u64::MAX;
 
 /// Why bytes can't be read from a word of a call or from the input.

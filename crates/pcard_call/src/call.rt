@@ -53,8 +53,8 @@ impl<'a> Call<'a> {
     }
 }
 
-/// Reads the options at the front of the words, where some are given already. Returns them all, and
-/// the words after them.
+/// Adds the options that the words begin with to those that are given already. Returns them all,
+/// and the words after them.
 fn read_options<'a>(
     verb: Verb,
     given: Options<'a>,

@@ -15,7 +15,6 @@ pub use Rattle.postcard_value_text.specs.Layout.{layout_of}
 pub use Rattle.postcard_value_text.specs.Shown.{text}
 pub use Rattle.pcard_print.specs.Lines.{bytes_member, more_text, noun_of, place_text}
 pub use Rattle.pcard_message.specs.Format.{TypeFails}
-pub use Rattle.pcard_files.specs.Fault.{Tells}
 pub use Rattle.pcard_compat.specs.declared.request.Switch.{Switch}
 pub use Rattle.pcard_compat.specs.Requests.{IsBadSwitch, IsMisuse, IsMisused, IsNewSwitch, IsRequest}
 pub use Rattle.pcard_compat.specs.Requests.{SwitchesThen, begins_switch, is_given, misuse_text}

@@ -2,13 +2,13 @@
 
 ghost use Rattle.std.specs.Prelude.{◌≤◌, map, string_bytes};
 ghost use Rattle.pcard_compat.specs.{Answers, EndsCall, PrintsOutcome, RefusesType, RefusesWords};
-ghost use Rattle.pcard_compat.specs.{Tells};
 
 use crate::outcome::{Outcome, outcome_of};
 use crate::request::{Misuse, Request};
 use crate::type_word::{NoType, type_of_word};
 use pcard_calls::report;
-use pcard_files::{Files, TypeFault};
+use pcard_files::Files;
+use pcard_files::call::tell;
 use pcard_message::Failure;
 use pcard_print::PrintError;
 use std::alloc::Global;
@@ -74,17 +74,6 @@ fn refuse_type<W: Write, E: Write>(why: NoType<'_>, output: &mut W, errors: &mut
     match why {
         NoType::File(file, fault) => tell(file, fault, errors),
         NoType::Expression(failure) => report(Err(failure), output),
-    }
-}
-
-/// Prints a line that says what is wrong with this file, and returns the exit status.
-fn tell<E: Write>(file: &str, fault: TypeFault, errors: &mut E) -> u8
-    ensures { Tells file.now fault (E.contents errors.old) (E.contents errors.new) result }
-{
-    let printed = writeln!(errors, "pcard: {file}: {fault}");
-    match printed.and(errors.flush()) {
-        Ok(()) => fault.status(),
-        Err(_) => UNWRITTEN,
     }
 }
 

@@ -10,9 +10,9 @@ use pcard_print::{PrintError, Reason, field_of, json_of, quote};
 use postcard_compat::{Comparison, Difference, Example, Reading};
 use std::alloc::{AllocError, Global};
 
-/// Returns the line of a comparison of what the writer writes with what the reader reads: an object
-/// with the word, the differences, the notes, and the example, of which each but the word is left
-/// out if there is none.
+/// Returns the line of a comparison of what the writer writes with what the reader reads. It is an
+/// object with the word, the differences, the notes, and the example. Each but the word is left out
+/// if there is none.
 ///
 /// # Errors
 ///

@@ -170,7 +170,7 @@ fn place_text(alloc: Global, path: &str) -> Result<String, AllocError>
     format!(in alloc; "{path}: ")
 }
 
-/// Returns the last bytes, so many, or all if there are fewer.
+/// Returns the last `left` bytes, or all if there are fewer.
 pub(crate) fn bytes_after(bytes: &[u8], left: usize) -> &[u8]
     ensures { result.now ≡ bytes_after bytes.now left }
 {

@@ -51,7 +51,7 @@ pub fn run<F: Files, R: Reader, W: Write, E: Write>(
 }
 
 /// Prints a line that says what is wrong with this file, and returns the exit status.
-pub(crate) fn tell<E: Write>(file: &str, fault: TypeFault, errors: &mut E) -> u8
+pub fn tell<E: Write>(file: &str, fault: TypeFault, errors: &mut E) -> u8
     ensures { Tells file.now fault (E.contents errors.old) (E.contents errors.new) result }
 {
     let printed = writeln!(errors, "pcard: {file}: {fault}");

@@ -15,7 +15,7 @@ use std::fmt;
 pub enum ImplProblem {
     /// The first mark is in the file, and no second one after it.
     MarkOpen,
-    /// The second mark stands in the file, and no first one before it.
+    /// The second mark is in the file, and no first one before it.
     MarkAlone,
     /// The marks wouldn't be found again where they would be written.
     MarkLost,
@@ -45,9 +45,9 @@ pub enum ImplProblem {
     SerdeAttribute,
     /// A field is one of proofs alone, so the type has a rule of its own.
     GhostField,
-    /// A comment stands inside the type of a field.
+    /// A comment is inside the type of a field.
     Comment,
-    /// A field has the type that it stands in, maybe through others.
+    /// A field has the type that it is a part of, maybe through others.
     Recursive,
     /// A field has a type whose values aren't written and read.
     NotServed,
@@ -107,7 +107,7 @@ pub struct ImplError<'a> {
     pub line: usize,
     /// Its place in the line in characters, counted from 1.
     pub column: usize,
-    /// The field, or what else it is that is wrong, as it stands in the file; or nothing.
+    /// What is wrong, as it is in the file: a field, for instance. It may be empty.
     pub what: &'a str,
 }
 

@@ -131,7 +131,7 @@ fn refusal_at(
     None
 }
 
-/// Returns whether a `;` stands in the brackets that begin at the index, outside of further ones.
+/// Returns whether a `;` is in the brackets that begin at the index, outside of further ones.
 fn has_count(tokens: &[Token], open: usize) -> bool {
     let words = inside(tokens, open);
     for at in words.start..words.end {

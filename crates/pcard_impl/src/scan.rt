@@ -164,7 +164,7 @@ pub(crate) fn parts(
     Ok(parts)
 }
 
-/// Returns whether the token at the index is a comma with so many brackets around it.
+/// Returns whether the token at the index is a comma with `depth` brackets around it.
 fn is_divider(tokens: &[Token], at: usize, depth: usize) -> bool {
     match token_at(tokens, at) {
         Some(token) => token.depth == depth && token.says(b","),

@@ -35,7 +35,7 @@ impl Text {
         }
     }
 
-    /// Adds a text to the end so many times.
+    /// Adds a text to the end, `count` times.
     pub(crate) fn add_times(&mut self, text: &str, count: usize) {
         for _ in 0..count {
             self.add(text);

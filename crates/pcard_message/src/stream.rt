@@ -21,7 +21,7 @@ use std::io::Write;
 /// The most bytes of one read.
 const CHUNK: usize = 65_536;
 
-/// The most reads. It only ends the loop: no input has so many bytes.
+/// The most reads. It only ends the loop: no input has that many bytes.
 const READS: u64 = u64::MAX;
 
 /// Reads frames until the input ends, and prints a line for each once its zero is read:

@@ -15,8 +15,8 @@ use Rattle.postcard_frame.specs.Frame.{HasNoData}
 use Rattle.postcard_crc.specs.Reading.{ReadsFrameChecked, HasExactErrors, IsDamaged}
 
 module _ {V : Type 0} (shape : Shape V) (k : ℕ) (d : Progress) (frame : List ℕ) (r : Result V Error) where
-  -- The call succeeds if the frame's data is a front that spells a tree that the type reads, and then
-  -- the k bytes of its checksum, by what the digest d has taken.
+  -- The call succeeds if the frame's data is a front that spells a tree that the type reads, followed by
+  -- the k bytes of its checksum. The digest d has taken what comes before.
   abbrev pub AcceptsChecked : Type 0
   AcceptsChecked = (t : Tree) (a : Parameters) (m front : List ℕ) (crc : ℕ) → shape.reads t → Spells t front
       → IsSound a → Took d a m → IsCrc a (m ++ front) crc → Groups frame (front ++ low_bytes k crc)

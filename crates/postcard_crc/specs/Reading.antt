@@ -20,8 +20,8 @@ pub record IsWithCrc (k : ℕ) (d : Progress) (bytes output : List ℕ) : Type 0
   pub is_crc : IsCrcAfter d bytes crc
   pub joins : output ≡ bytes ++ low_bytes k crc
 
--- A front of the bytes spells a tree that is read, and is followed by the k bytes of its checksum; v
--- is that tree's value, and `rest` is the bytes after the checksum.
+-- A front of the bytes spells a tree that is read, and is followed by the k bytes of its checksum.
+-- The value of the tree is v, and `rest` is the bytes after the checksum.
 pub record ReadsChecked {V : Type 0} (reads : Tree → Type 0) (value : Tree → V → Type 0)
     (k : ℕ) (d : Progress) (bytes : List ℕ) (v : V) (rest : List ℕ) : Type 0 where
   pub tree : Tree

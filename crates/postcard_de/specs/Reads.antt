@@ -1,5 +1,5 @@
--- The words of reading: what a call does that reads from a deserializer, and the definitions of
--- `postcard_de_nodes` on what a call does that reads, and on the kinds of nodes, under one path of this crate.
+-- What a call does that reads from a deserializer. The definitions of `postcard_de_nodes`, which say what a
+-- reading call does and which kinds of nodes there are, are found here, too, under one path.
 pub use Rattle.postcard_de.specs.Deserializer.{source_of, Deserializes, DeserializesNode, DeserializesOption}
 pub use Rattle.postcard_de.specs.Deserializer.{DeserializesResult, DeserializesTree, DeserializesParts}
 pub use Rattle.postcard_de.specs.Deserializer.{DeserializesCase, DeserializesNext, DeserializesNothing}

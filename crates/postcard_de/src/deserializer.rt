@@ -33,10 +33,10 @@ use std::marker::PhantomData;
 /// # Errors
 ///
 /// A call fails with `DeserializeUnexpectedEnd` if the source can't give the bytes that it takes. A
-/// number of 16 or more bits fails with `DeserializeBadVarint` if its varint has more bytes than
-/// the width allows, 3, 5, 10 or 19, or its number more bits; the greatest number of bytes is taken
-/// then. The index of a variant is a number of 32 bits, and a count or a length one of 64. A call
-/// that reads other values fails as reading the first of them that can't be read does.
+/// number of 16, 32, 64 or 128 bits has a varint of at most 3, 5, 10 or 19 bytes. It fails with
+/// `DeserializeBadVarint` if the varint is longer, or the number has more bits. The call has taken
+/// that many bytes then. The index of a variant is a number of 32 bits, and a count or a length one
+/// of 64. A call that reads other values fails as the first of them that can't be read.
 #[derive(Drop)]
 pub struct Deserializer<'de, F: Flavor> {
     pub(crate) flavor: F,

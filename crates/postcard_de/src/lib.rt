@@ -1,11 +1,14 @@
 //! Reading: a deserializer over a source, and the types that it reads.
 //!
 //! A type's shape says which trees it reads and what their values are. The layer above relies on
-//! one contract, that of [`Deserialize::deserialize`]: `Deserializes F.Flavor shape ..` says that
-//! the result is the value of a front that spells a tree that the type reads, that such a front is
-//! read if the source is able to give it and no allocation fails, what is left, and which errors may
-//! be returned. A type that is one node has the clause `DeserializesNode`, by the `ReadsNode` of
-//! `postcard_de_nodes`, which adds the exact reason of a failure; options and `Result` have
+//! one contract, that of [`Deserialize::deserialize`]. `Deserializes F.Flavor shape ..` says:
+//!
+//! - The result is the value of a front that spells a tree that the type reads.
+//! - Such a front is read if the source is able to give it and no allocation fails.
+//! - It says what is left in the source, and which errors may be returned.
+//!
+//! A type that is one node has the clause `DeserializesNode`, by the `ReadsNode` of
+//! `postcard_de_nodes`, which adds the exact reason of a failure. Options and `Result` have
 //! `DeserializesOption` and `DeserializesResult`.
 //!
 //! A struct is read as the tuple of its fields and an enum as its variants in a row ([`FromRepr`]),

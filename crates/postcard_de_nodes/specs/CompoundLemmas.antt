@@ -8,9 +8,9 @@ use Rattle.postcard_de_nodes.specs.ErrorLemmas.{wider}
 use Rattle.postcard_de_nodes.specs.TakeLemmas.{both_taken, can_first, can_second}
 use Rattle.postcard_de_nodes.specs.ReadLemmas.{refusal}
 
--- How a thing is made of two. The first is spelled, read and valued by P, R and I; the second,
--- after a first of value v, is spelled and read by Q and S v; what is made of both is spelled and
--- read by P' and R'.
+-- How a thing is made of two. The first is spelled, read and valued by P, R and I. The second, after
+-- a first of value v, is spelled and read by Q and S v. What is made of both is spelled and read by
+-- P' and R'.
 pub record Compound {X Y Z V : Type 0} (make : X → Y → Z) (P : X → List ℕ → Type 0) (R : X → Type 0)
     (I : X → V → Type 0) (Q : Y → List ℕ → Type 0) (S : V → Y → Type 0) (P' : Z → List ℕ → Type 0)
     (R' : Z → Type 0) : Type 0 where

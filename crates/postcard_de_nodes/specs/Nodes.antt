@@ -25,9 +25,10 @@ use Rattle.postcard_de_nodes.specs.Unfit.{BadBool, WantsChar, BadChar, BadBytes,
 use Rattle.postcard_de_nodes.specs.Unfit.{ZeroByte, ZeroNumber, BadOption, ContentRefuses}
 use Rattle.postcard_de_nodes.specs.Unfit.{BadIndex, VariantRefuses}
 
--- A kind of node, of which values of the type V are read: which bytes spell a thing, which things
--- are such nodes, and which values each has; by which errors reading may fail beside those of its
--- bytes; after which bytes how many more are wanted, and which bytes are bad, with which error.
+-- A kind of node, of which values of the type V are read. `spelled` says which bytes spell a thing,
+-- `reads` which things are such nodes, and `value` which values each has. `other` has the errors by
+-- which reading may fail beside those of its bytes. `wants` says after which bytes how many more are
+-- wanted, and `bad` which bytes are bad, with which error.
 pub record Node (X V : Type 0) : Type 1 where
   pub spelled : X → List ℕ → Type 0
   pub reads : X → Type 0

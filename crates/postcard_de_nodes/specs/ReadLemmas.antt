@@ -25,8 +25,8 @@ abbrev pub Delimits : {X : Type 0} → (X → List ℕ → Type 0) → (X → Ty
 Delimits {X} spelled reads = (t s : X) (p q x y : List ℕ) → reads t → reads s → spelled t p →
     spelled s q → p ++ x ≡ q ++ y → (p ≡ q) × (t ≡ s)
 
--- The reasons for a failure exclude a front that is read: more bytes are wanted only within such a
--- front; bad bytes begin no such front, unless an allocation failed; and their error is one that a
+-- The reasons for a failure exclude a front that is read. More bytes are wanted only within such a
+-- front. Bad bytes begin no such front, unless an allocation failed. Their error is one that a
 -- reading call may return.
 pub record Excludes {X : Type 0} (other : Error → Type 0) (wants : List ℕ → ℕ → Type 0)
     (bad : List ℕ → Error → Type 0) (spelled : X → List ℕ → Type 0) (reads : X → Type 0) : Type 0

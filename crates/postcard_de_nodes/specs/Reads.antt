@@ -19,8 +19,8 @@ use Rattle.postcard_de_flavors.specs.Source.{Left, CanTake, Takes}
 use Rattle.postcard_de_flavors.specs.declared.flavor.Flavor.{Ghosts}
 
 -- The errors that a reading call may return (behaviour of postcard 1.1.3): the bytes end, a node is
--- bad, a type refuses what was read; and what else the type answers, as `OutOfMemory` if it grows.
--- The errors of a bad frame and of a bad checksum are never among them.
+-- bad, or a type refuses what was read. `other` has what else the type answers, as `OutOfMemory` if it
+-- allocates. The errors of a bad frame and of a bad checksum are never among them.
 abbrev pub IsReadError : (Error → Type 0) → Error → Type 0
 IsReadError other DeserializeUnexpectedEnd = ⊤
 IsReadError other DeserializeBadVarint = ⊤
@@ -45,12 +45,12 @@ pub record Gives {X S : Type 0} (spelled : X → List ℕ → Type 0) (reads cla
   pub taken : Takes left able old front new
 
 -- A reading call over a source that has `left s` left and is `able s n` to give n bytes, from its
--- state `old` to `new`:
--- if it succeeds, it returns the value of a front that spells a thing that it reads, and has taken
--- just that front;
--- if such a front can be taken, it succeeds with that thing's value and takes just that front,
--- unless memory runs out for a type that grows;
--- it leaves a state that takes may leave, and an error that it returns is one that a reading call
+-- state `old` to `new`.
+-- If it succeeds, it returns the value of a front that spells a thing that it reads, and has taken
+-- just that front.
+-- If such a front can be taken, it succeeds with that thing's value and takes just that front. A type
+-- that allocates may fail with `OutOfMemory`.
+-- It leaves a state that takes may leave, and an error that it returns is one that a reading call
 -- may return.
 pub record ReadsFrom {X S V : Type 0} (spelled : X → List ℕ → Type 0) (reads : X → Type 0)
     (value : X → V → Type 0) (other : Error → Type 0) (left : S → Left)

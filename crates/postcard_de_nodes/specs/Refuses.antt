@@ -27,8 +27,8 @@ pub record IsBad {S : Type 0} (bad : List ℕ → Error → Type 0) (left : S �
   pub taken : Takes left able old front new
   pub why : bad front e
 
--- A call over a source that has `left s` left and is `able s n` to give n bytes fails with the
--- error e: the bytes end although more are wanted, or a front was taken that is bad.
+-- A call fails with the error e: the bytes end although more are wanted, or a front was taken that is
+-- bad. Its source has `left s` left and is `able s n` to give n bytes.
 abbrev pub RefusesFrom : {S : Type 0} → (List ℕ → ℕ → Type 0) → (List ℕ → Error → Type 0) →
     (S → Left) → (S → ℕ → Type 0) → S → Error → S → Type 0
 RefusesFrom wants bad left able old e new =

@@ -12,9 +12,9 @@ use postcard_wire::{Error, Result};
 const PAUSE: usize = 16;
 
 /// Reads some of the next elements of a list at once, at most `most` of them, and appends them to
-/// `items`, if the source has them in memory ([`Flavor::at_hand`]) and the type takes them from
-/// there ([`Shaped::append_at_hand`]). Returns whether it did; if not, nothing is taken, and the
-/// caller reads the next element.
+/// `items`. It can do so if the source has them in memory ([`Flavor::at_hand`]) and the type takes
+/// them from there ([`Shaped::append_at_hand`]). Returns whether it did; if not, nothing is taken,
+/// and the caller reads the next element.
 ///
 /// `pause` is 0 before the first call for a list, and then what the last call left: how many
 /// elements are to be read one by one before the next try. Fails with `OutOfMemory` if the

@@ -14,7 +14,7 @@ pub fn base_256()
         AreNumber big.value k n p ↔ (p ≡ big.spell k n) }
 {}
 
-/// [`crate::LE`] and [`crate::BE`] write exactly the bytes of the number, as many as its type has.
+/// [`crate::LE`] and [`crate::BE`] write exactly the bytes of the number, whose count the type says.
 pub fn encoded<T: FixInt>()
     ensures lowest_first { (v : T) → canonical ((fixed little T.width).tree v)
         ≡ little.spell T.width.size (T.width.modulo v) }

@@ -3,13 +3,12 @@
 //! is in two's complement. A varint is shorter for small numbers; a random `u64`, as a hash or an
 //! identifier, has 8 bytes here in place of 9 or 10.
 //!
-//! `specs/Base256.antt` of `postcard_shape` defines the bytes of a number: those, as many as its
-//! type has, whose value in base 256 is the number. `specs/Fixed.antt` defines the shape and proves
-//! its laws: what was written is read back as the same number, and any bytes of that count are
-//! read.
+//! `specs/Base256.antt` of `postcard_shape` defines the bytes of a number of n bytes: the n bytes
+//! whose value in base 256 is the number. `specs/Fixed.antt` defines the shape and proves its laws:
+//! what was written is read back as the same number, and any n bytes are read.
 //!
 //! [`LE`] and [`BE`] stand in place of the number inside a larger value: in a list, in an option,
-//! or in the tuple of a struct's fields, where `new` wraps the number and `get` returns it:
+//! or in the tuple of a struct's fields. There `new` wraps the number and `get` returns it:
 //!
 //! ```text
 //! impl Repr for Header {

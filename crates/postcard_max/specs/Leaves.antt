@@ -1,6 +1,6 @@
--- The greatest sizes of values that are a single node: bytes, booleans, numbers, characters,
--- texts of a fixed capacity and spans of time (wire format 1.0, "the serde data model" and "maximum
--- encoded length").
+-- The greatest sizes of values that are a single node: bytes, booleans, numbers, characters, texts of
+-- a fixed capacity and spans of time. The rules are those of wire format 1.0, "the serde data model"
+-- and "maximum encoded length".
 use Rattle.std.proofs.Common.{◌≡◌, ℕ, zero, suc, ◌+◌, ◌-◌, ◌^◌, ◌<◌, ◌≤◌, inl, inr, Some, true, List, [], ◌∷◌, ◌++◌, length, refl, ap, ◌∙◌, arith, length-append, encode_utf8, pos}
 use Rattle.std.specs.Prelude.{slice_index}
 use Rattle.std.proofs.lemmas.Str.{len_utf8_bounds, length-encode, IsUtf8-from_ascii}

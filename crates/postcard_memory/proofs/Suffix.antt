@@ -1,4 +1,4 @@
--- The bytes of a `&mut [u8]` after its front are lent for as long as the whole was, the front is shared for as long, and the
+-- The bytes of a `&mut [u8]` after its front are lent for as long as the whole was, and the front is shared for as long. The
 -- whole follows what becomes of the rest. Assumes `Logic`.
 use Rattle.std.proofs.Common.{◌≡◌, ℕ, ◌+◌, List, [], ◌∷◌, ◌++◌, length, refl, sym, arith, w8}
 use lib.ListN.{length-append}

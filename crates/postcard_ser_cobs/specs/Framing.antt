@@ -22,8 +22,8 @@ module _ {S : Type 0} (held : S → List ℕ) where
     pub stands : IsOpen frame at d
 
   module _ (free : S → ℕ → Type 0) where
-    -- The data x has room: the storage has as many bytes free as the frame grows by, and one more
-    -- for its zero, and the length of the whole frame can be counted.
+    -- The data x has room. The storage has as many bytes free as the frame grows by, and one more for
+    -- its zero. The length of the whole frame can be counted.
     pub record HasFrameRoom (s : S) (start : ℕ) (at : Standing) (failed : Bool) (x : List ℕ) : Type 0 where
       pub before : List ℕ
       pub d : List ℕ
@@ -31,8 +31,8 @@ module _ {S : Type 0} (held : S → List ℕ) where
       pub enough : free s (length (made (d ++ x)) - length (made d) + 1)
       pub few : length (made (d ++ x)) ≤ 2 ^ 64 - 1 - 2
 
-    -- What pushes leave, also refused ones: the storage is one that its pushes may leave, a refusal
-    -- stays, and without one the storage has grown and has the rest of its bytes free.
+    -- What pushes leave, also refused ones. The storage is one that its pushes may leave, and a
+    -- refusal stays. Without one the storage has grown and has its other bytes free.
     pub record LeavesFrame (reaches : S → S → Type 0) (s : S) (failed : Bool) (t : S) (failed' : Bool) : Type 0 where
       pub inner : reaches s t
       pub stays_failed : IsTrue failed → IsTrue failed'

@@ -1,5 +1,5 @@
--- The shapes of sets and maps: lists of keys or entries in the order of their keys, or, where keys are
--- found by their hashes, in an order of their own (wire format 1.0, "seq" and "map").
+-- The shapes of sets and maps (wire format 1.0, "seq" and "map"). They are lists of keys or entries in
+-- the order of their keys. Where keys are found by their hashes, the lists have an order of their own.
 use Rattle.std.proofs.Common.{refl}
 use Rattle.std.specs.BTreeMap.{insert_entry}
 use Rattle.std.specs.BTreeSet.{insert_key}
@@ -127,7 +127,7 @@ entries cmp k s = record {
   again = map_again cmp k.tree k.reads k.value k.fits k.again s.tree s.reads s.value s.fits s.again;
 }
 
--- Putting these elements one after another into a container of the elements vs gives one of ws, where
+-- Putting these elements one after another into a container of the elements vs gives one of ws.
 -- `step x us ts` says that putting x into one of us gives one of ts.
 abbrev pub Puts : {V : Type 0} → (V → List V → List V → Type 0) → List V → List V → List V → Type 0
 Puts step [] vs ws = ws ≡ vs

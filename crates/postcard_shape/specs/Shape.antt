@@ -1,5 +1,5 @@
 -- What a type says of its values, once for both directions: the tree that each is written as, the
--- trees that are read and their values, when two values look alike, and the laws that tie them.
+-- trees that are read, and their values. It says when two values look alike, and has the laws.
 use Rattle.std.specs.Prelude.{◌⊎◌, ⊤}
 use Rattle.postcard_wire.specs.Reading.{IsDelimited, ReadsWellFormed}
 use Rattle.postcard_wire.specs.Tree.{Tree}
@@ -10,9 +10,9 @@ use Rattle.postcard_wire.specs.declared.error.Error.TheVariants.{OutOfMemory}
 abbrev pub HasOne : {V : Type 0} → (Tree → V → Type 0) → (V → V → Type 0) → Type 0
 HasOne {V} value same = (t : Tree) (v w : V) → value t v → value t w → same v w
 
--- The tree of a value that fits is one that is read, and the value is one of that tree. The laws of this
--- kind of a combinator's parts stand in its own as arguments of a lemma, each once: written out, a law
--- that has another twice doubles with each part and each type inside.
+-- The tree of a value that fits is one that is read, and the value is one of that tree. In such a law of
+-- a combinator, those of its parts are arguments of a lemma, each once. Written out, a law that has
+-- another twice doubles with each part and each type inside.
 abbrev pub ComesBack : {V : Type 0} → (V → Tree) → (Tree → Type 0) → (Tree → V → Type 0) → (V → Type 0) → Type 0
 ComesBack {V} tree reads value fits = (v : V) → fits v → reads (tree v) × value (tree v) v
 

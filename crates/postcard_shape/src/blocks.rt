@@ -25,7 +25,7 @@ pub trait OfBytes: Sized {
         ensures { IsValue form (take size bytes.now) result };
 }
 
-/// Appends the next values to a list, as `append_at_hand` does: as many as `bytes` have whole, but
+/// Appends the next values to a list, as `append_at_hand` does: those that `bytes` have whole, but
 /// at most `most`. Asks for memory for just these.
 #[inline(always)]
 pub fn append<T: OfBytes>(items: &mut Vec<T>, bytes: &[u8], most: usize) -> Result<Option<usize>>

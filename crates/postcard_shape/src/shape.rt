@@ -16,9 +16,9 @@ pub trait Shaped {
     ghost shape: { Shape Self };
 
     /// Returns the encodings of some first `items`, one after the other, for a type whose values
-    /// are written quicker many at a time: of all items if they are just these bytes in memory, as
-    /// those of a slice of `u8` are, or of a block or a row of them, as of four or sixteen `f32`,
-    /// or of sixteen `u32` below 128. By default returns `OneByOne`.
+    /// are written quicker many at a time. These are all items if they are just these bytes in
+    /// memory, as those of a slice of `u8`. Else they are a block or a row: four or sixteen `f32`,
+    /// or sixteen `u32` below 128. By default returns `OneByOne`.
     fn first_bytes(items: &[Self]) -> FirstBytes<'_>
     where
         Self: Sized,

@@ -22,10 +22,10 @@
 //! names replaced, a type has at most 65,536 words and signs, and in it names stand for one another
 //! at most 64 deep.
 //!
-//! A file is read in five steps, one module each: its tokens ([`lex`]), those that are kept
-//! ([`kept`]), the declarations ([`declaration`]), the words of a type with its names replaced
-//! ([`expand`], and for each token [`words`]), and their text. [`place`] has the line and column of
-//! an error.
+//! A file is read in five steps, one module each. [`lex`] makes its tokens, [`kept`] those that are
+//! kept, and [`declaration`] the declarations. [`expand`] makes the words of a type with its names
+//! replaced, by [`words`] for each token, and then their text is made. [`place`] has the line and
+//! column of an error.
 #![tactic(auto)]
 
 ghost use Rattle.std.specs.Prelude.{IfOk, IfErr, string_bytes};

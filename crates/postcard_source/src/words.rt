@@ -146,7 +146,7 @@ fn is_sign(tokens: &[Token], at: usize, depth: usize, sign: &[u8]) -> bool
 }
 
 /// Returns whether the token at the index is the comma after the last field of a tuple struct or a
-/// tuple variant, whose fields have so many brackets around them.
+/// tuple variant. The fields have `depth` brackets around them.
 fn is_last_comma(tokens: &[Token], at: usize, depth: usize) -> bool
     requires { at < length tokens.now }
     ensures { Decides result (IsLastComma depth tokens.now at) }

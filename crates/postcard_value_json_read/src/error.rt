@@ -145,7 +145,7 @@ impl fmt::Display for JsonError<'_> {
     }
 }
 
-/// Returns what stands after a path: `: `, but nothing after an empty one.
+/// Returns what is printed after a path: `: `, but nothing after an empty one.
 pub(crate) fn colon_after(is_whole: bool) -> &'static str
     ensures { result.now ≡ colon_after is_whole }
 {

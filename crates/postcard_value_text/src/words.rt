@@ -1,4 +1,4 @@
-//! Signs and names at the front of a text: what stands around values.
+//! Signs and names that a text begins with: what is around values.
 
 ghost use Rattle.std.specs.Prelude.{◌≡◌, ◌≢◌, ℕ, ◌<◌, ◌++◌, ◌∷◌, true, false, List, length};
 ghost use Rattle.std.specs.Prelude.{IfSome, IfNone, MatchResult, OnOk};

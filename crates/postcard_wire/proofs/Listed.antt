@@ -27,9 +27,9 @@ pub Each-push : (reads : Tree → Type 0) (ts : List Tree) (t : Tree) → Each r
 Each-push reads [] t e r = (r, tt)
 Each-push reads (u ∷ ts) t e r = (e.0, Each-push reads ts t e.1 r)
 
--- One turn of the loop that writes a list after what was there before (start) and the digits of its
--- length (d): if the first i elements were written, and then the next one, x, the first i + 1 are
--- written.
+-- One turn of the loop that writes a list. Before the list come what was there (start) and the digits
+-- of its length (d). If the first i elements were written, and then the next one, x, the first i + 1
+-- are written.
 pub written_more : {X : Type 0} (f : X → Tree) (xs : List X) (i : ℕ) (x : X) (start d mid new : List ℕ)
     → mid ≡ start ++ (d ++ canonical_all (trees (map f (take i xs)))) → new ≡ mid ++ canonical (f x) → i < length xs → x ≡ get_or xs i x
     → new ≡ start ++ (d ++ canonical_all (trees (map f (take (i + 1) xs))))

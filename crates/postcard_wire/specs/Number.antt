@@ -2,19 +2,19 @@
 -- encoding").
 use Rattle.std.specs.Prelude.{◌≡◌, ℕ, zero, suc, ◌+◌, ◌*◌, ◌/◌, ◌%◌, ◌<◌, ◌≤◌, ◌^◌, ◌-◌, nat_lt, if◌then◌else◌, List, [], ◌∷◌, ◌++◌, length, ℤ, pos, negsuc, neg_ℤ, ◌≤ℤ◌, ◌<ℤ◌}
 
--- The greatest number of bytes of a varint of w bits, at seven bits a byte: 3, 5, 10 and 19 for 16,
--- 32, 64 and 128 (wire format, varint, "maximum encoded length").
+-- The greatest number of bytes of a varint of w bits, at seven bits a byte (wire format, varint,
+-- "maximum encoded length"): 3, 5, 10 and 19 for 16, 32, 64 and 128 bits.
 abbrev pub max_digits : ℕ → ℕ
 max_digits w = (w + 6) / 7
 
--- The number that bytes spell in base 128, lowest digit first: the sum of (byte mod 128) * 128 ^ place
--- (wire format, varint: seven bits of each byte are data, least significant group first).
+-- The number that bytes spell in base 128, lowest digit first: the sum of (byte mod 128) * 128 ^ place.
+-- Seven bits of each byte are data, the least significant group first (wire format, varint).
 abbrev pub number : List ℕ → ℕ
 number [] = 0
 number (b ∷ bs) = b % 128 + 128 * number bs
 
--- There is at least one byte; all but the last are at least 128, and the last is below 128
--- (wire format, varint: the high bit of a byte says that another follows).
+-- There is at least one byte. All but the last are at least 128, and the last is below 128: the high
+-- bit of a byte says that another follows (wire format, varint).
 abbrev pub AreDigits : List ℕ → Type 0
 AreDigits [] = ⊥
 AreDigits (b ∷ []) = b < 128

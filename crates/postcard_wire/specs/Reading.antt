@@ -1,6 +1,6 @@
 -- Sets of trees, as types read them, and the law that makes them prefix-free: at most one front of
--- some bytes spells a tree of the set (wire format 1.0, "not a self describing format": the type
--- tells where a message ends).
+-- some bytes spells a tree of the set. The type tells where a message ends (wire format 1.0, "not a
+-- self describing format").
 use Rattle.std.specs.Prelude.{◌≡◌, ℕ, ◌<◌, ◌^◌, ◌⊎◌, Bool, List, ◌++◌, length, ℤ, IsUtf8}
 use Rattle.std.specs.Char.{IsScalar}
 use Rattle.postcard_wire.specs.Number.{InRange}

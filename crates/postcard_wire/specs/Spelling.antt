@@ -39,9 +39,8 @@ abbrev mutual
   SpellsAll NoTrees p = p ≡ []
   SpellsAll (Then t ts) p = Joins p (Spells t) (SpellsAll ts)
 
--- The canonical encoding of a tree: its spelling with the fewest digits in each number, lengths and
--- indices among them, and with no text after the character of a Char (wire format 1.0,
--- "canonicalization").
+-- The canonical encoding of a tree (wire format 1.0, "canonicalization"): its spelling with the fewest
+-- digits in each number, lengths and indices among them. No text follows the character of a Char.
 abbrev mutual
   pub canonical : Tree → List ℕ
   canonical (Byte b) = b ∷ []

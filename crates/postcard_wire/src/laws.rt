@@ -111,7 +111,7 @@ pub fn well_formed_subsets<S: TreeSet, T: TreeSet>()
     ensures { ((t : Tree) → S.has t → T.has t) → ReadsWellFormed T.has → ReadsWellFormed S.has }
 {}
 
-/// What is written is read again: if bytes begin with the shortest spelling of a tree of the set,
+/// What is written is read again. If bytes begin with the shortest spelling of a tree of the set,
 /// that is the only front that spells a tree of the set, and it spells only that tree.
 pub fn read_again<S: TreeSet>()
     ensures { IsDelimited S.has → ReadsWellFormed S.has → (t s : Tree) (p rest left : List ℕ)

@@ -1,7 +1,6 @@
 //! Zigzag: signed numbers as unsigned ones (wire format 1.0, "signed integer encoding"). A number
-//! `n` becomes `2 * n`, or `-2 * n - 1` if it is negative: 0, -1, 1, -2, 2 become 0, 1, 2, 3, 4, so
-//! that a number near zero is short whatever its sign. An `i8` is not a varint: it is written as
-//! one byte.
+//! `n` becomes `2 * n`, or `-2 * n - 1` if it is negative: 0, -1, 1, -2, 2 become 0, 1, 2, 3, 4. So a
+//! number near zero is short whatever its sign. An `i8` is not a varint: it is written as one byte.
 
 ghost use Rattle.std.specs.Prelude.{◌≡◌};
 ghost use Rattle.postcard_wire.specs.{zigzag};

@@ -17,10 +17,10 @@ use std::collections::{BTreeMap, BTreeSet};
 /// Appends an element to a list that is to get `announced` more elements, this one included, or
 /// fails with `OutOfMemory`.
 ///
-/// If the list is full, it first asks for room for `first` more elements, or for three times the
-/// number that it has if that is greater, but never for more than `announced`. So a list takes few
-/// requests for memory, and none is for more than `first` elements or three times those that were
-/// read, whatever count a damaged message announces.
+/// If the list is full, it first asks for room: for `first` more elements, or for three times the
+/// number that it has if that is greater. It never asks for more than `announced`. So a list takes
+/// few requests for memory, and none is for more than `first` elements or three times those that
+/// were read, whatever count a damaged message announces.
 fn push_announced<T: Drop>(
     items: &mut Vec<T>,
     item: T,
