@@ -8,3 +8,4 @@ pub mod Room
 pub mod Framed
 pub mod Decoding
 pub mod InFrame
+pub mod Own

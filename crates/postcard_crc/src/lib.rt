@@ -1,5 +1,5 @@
-//! Messages with a checksum after them, also in frames. The checksum is that of the value's
-//! encoding, in as many bytes as its type has, the lowest first.
+//! Messages with a checksum after them, also in frames, and in frames from a stream. The checksum is
+//! that of the value's encoding, in as many bytes as its type has, the lowest first.
 //!
 //! # Errors of encoding
 //!
@@ -11,6 +11,7 @@
 
 pub mod de;
 pub mod de_flavors;
+pub mod frames;
 pub mod ser;
 pub mod ser_flavors;
 mod trailer;

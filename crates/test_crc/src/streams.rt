@@ -4,7 +4,7 @@ ghost use Rattle.std.specs.Prelude.{◌<◌, ◌≤◌};
 
 use crc::{CRC_8_MAXIM_DOW, Crc};
 use postcard_accumulator::{Answer, CobsAccumulator, FeedResult, ReadEnd};
-use postcard_crc_frames::{feed, read_frames};
+use postcard_crc::frames::{feed, read_frames};
 use std::alloc::AllocGlobal;
 use std::process::Abort;
 

@@ -9,7 +9,7 @@ use Rattle.postcard_crc.specs.Reading.{IsDamaged}
 use Rattle.postcard_accumulator.specs.declared.answers.Answer.{Answer}
 use Rattle.postcard_accumulator.specs.declared.answers.Answer.TheVariants.{OverFull, DeserError}
 use Rattle.postcard_accumulator.specs.declared.answers.Answer.TheVariants.{Success}
-use Rattle.postcard_crc_frames.specs.Checked.{IsOwn}
+use Rattle.postcard_crc.specs.Own.{IsOwn}
 
 -- The answer is a value that looks like x; or `DeserError`, if its type grows: memory was refused.
 abbrev pub Arrives : {T : Type 0} → Shape T → T → Answer T → Type 0

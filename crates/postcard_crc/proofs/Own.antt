@@ -15,8 +15,8 @@ use Rattle.postcard_shape.specs.Shape.{Shape, Grows}
 use Rattle.postcard_shape.proofs.Again.{is_spelled, is_same}
 use Rattle.postcard_accumulator.specs.declared.answers.Answer.TheVariants.{OverFull, DeserError, Success}
 use Rattle.postcard_crc.specs.Reading.{ReadsChecked}
-use Rattle.postcard_crc_frames.specs.Checked.{IsValueOf, IsRefused}
-use Rattle.postcard_crc_frames.specs.Laws.{MessageArrives, DamageRefused}
+use Rattle.postcard_crc.specs.Own.{IsValueOf, IsRefused}
+use Rattle.postcard_crc.specs.FrameLaws.{MessageArrives, DamageRefused}
 
 module _ {T : Type 0} (shape : Shape T) (k : ℕ) (a : Parameters) where
   -- A frame that has no data has no value.

@@ -1,9 +1,9 @@
 //! The reading loop: reads all frames of a reader by an accumulator, and checks their checksums.
 
 ghost use Rattle.std.specs.Prelude.{◌≡◌, ◌≢◌, ◌<◌, ◌++◌, ◌∷◌, [], length, vec_len, vec_capacity};
-ghost use Rattle.postcard_crc_frames.specs.{IsAtEnd, IsFedAll, IsOwn, IsReading};
+ghost use Rattle.postcard_crc.specs.{IsAtEnd, IsFedAll, IsOwn, IsReading};
 
-use crate::feeding::feed;
+use crate::frames::feeding::feed;
 use crc::{Crc, Implementation, Width};
 use postcard_accumulator::laws::held_fits;
 use postcard_accumulator::{Answer, CobsAccumulator, FeedResult, ReadEnd};

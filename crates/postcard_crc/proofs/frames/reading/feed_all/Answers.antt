@@ -3,9 +3,9 @@ use Rattle.std.proofs.Common.{length, refl, sym, ◌∙◌, [], eqb-true}
 use Rattle.std.proofs.lemmas.List.{append-nil}
 use Rattle.postcard_accumulator.specs.declared.answers.FeedResult.TheVariants.{Consumed, OverFull}
 use Rattle.postcard_accumulator.specs.declared.answers.FeedResult.TheVariants.{DeserError, Success}
-use Rattle.postcard_crc_frames.specs.Checked.{IsOwn}
+use Rattle.postcard_crc.specs.Own.{IsOwn}
 use Rattle.postcard_accumulator.proofs.ReadLoop.{at_start, at_next, at_end}
-use Rattle.postcard_crc_frames.proofs.reading.feed_all.Goals as goal
+use Rattle.postcard_crc.proofs.frames.reading.feed_all.Goals as goal
 
 pub feeds-init : goal.feeds-init
 feeds-init g c = at_start g.row.N (IsOwn g.T.Shaped.shape g.W.Width.size c.args.crc.now) c.args.acc.now c.args.piece.now

@@ -1,8 +1,8 @@
 -- All bytes read were fed.
 use Rattle.std.proofs.Common.{length}
-use Rattle.postcard_crc_frames.specs.Checked.{IsOwn}
+use Rattle.postcard_crc.specs.Own.{IsOwn}
 use Rattle.postcard_accumulator.proofs.ReadLoop.{ReadSoFar}
-use Rattle.postcard_crc_frames.proofs.reading.read_frames.Given as goal
+use Rattle.postcard_crc.proofs.frames.reading.read_frames.Given as goal
 
 abbrev pub invariant-loop : goal.invariant-loop
 invariant-loop g l = record {

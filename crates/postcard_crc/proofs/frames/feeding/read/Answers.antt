@@ -1,9 +1,9 @@
 -- By what the piece completed.
 use Rattle.std.proofs.Common.{[]}
-use Rattle.postcard_crc_frames.specs.Checked.{IsOwn}
+use Rattle.postcard_crc.specs.Own.{IsOwn}
 use Rattle.postcard_accumulator.proofs.Taking.{read_consumed, read_over_full, read_refused, read_err, read_ok}
-use Rattle.postcard_crc_frames.proofs.Own.{refused_none, refused_data, value_read}
-use Rattle.postcard_crc_frames.proofs.feeding.read.Goals as goal
+use Rattle.postcard_crc.proofs.Own.{refused_none, refused_data, value_read}
+use Rattle.postcard_crc.proofs.frames.feeding.read.Goals as goal
 
 pub returns-in-Consumed : goal.returns-in-Consumed
 returns-in-Consumed g c = rw c.in-Consumed.is (read_consumed (IsOwn g.T.Shaped.shape g.W.Width.size c.args.crc.now))

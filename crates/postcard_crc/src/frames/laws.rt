@@ -1,7 +1,7 @@
 //! What holds of every frame with a checksum, as contracts of functions that do nothing
-//! (`specs/Laws.antt`).
+//! (`specs/FrameLaws.antt`).
 
-ghost use Rattle.postcard_crc_frames.specs.{DamageRefused, MessageArrives};
+ghost use Rattle.postcard_crc.specs.{DamageRefused, MessageArrives};
 
 use postcard_de::DeserializeOwned;
 

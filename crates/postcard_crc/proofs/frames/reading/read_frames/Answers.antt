@@ -2,10 +2,10 @@
 use Rattle.std.proofs.Common.{arith, length, refl, ◌≡◌}
 use Rattle.std.proofs.lemmas.List.{length-take-le}
 use Rattle.postcard_accumulator.specs.declared.reading.ReadEnd.TheVariants.{End, ReadFailed}
-use Rattle.postcard_crc_frames.specs.Checked.{IsOwn}
+use Rattle.postcard_crc.specs.Own.{IsOwn}
 use Rattle.postcard_accumulator.proofs.ReadLoop.{no_read, read_on, read_stopped, read_ended}
 use Rattle.postcard_accumulator.proofs.ReadLoop.{read_nothing, read_failed}
-use Rattle.postcard_crc_frames.proofs.reading.read_frames.Goals as goal
+use Rattle.postcard_crc.proofs.frames.reading.read_frames.Goals as goal
 
 pub loop-init : goal.loop-init
 loop-init g c = record {

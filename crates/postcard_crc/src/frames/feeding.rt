@@ -1,10 +1,11 @@
 //! One feed of an accumulator, with the checksum of the frame that it completes.
 
-ghost use Rattle.postcard_crc_frames.specs.{IsFed, IsOwn, IsReadOf};
+ghost use Rattle.postcard_accumulator.specs.Values.{IsReadOf};
+ghost use Rattle.postcard_crc.specs.{IsFed, IsOwn};
 
+use crate::de::from_bytes_whole;
 use crc::{Crc, Implementation, Width};
 use postcard_accumulator::{CobsAccumulator, FeedResult};
-use postcard_crc::de::from_bytes_whole;
 use postcard_de::{DeserializeOwned, Owned};
 use std::alloc::Global;
 
