@@ -37,7 +37,7 @@ def parse(body):
 
     try:
         tree = statement(next(row))
-    except (StopIteration, RuntimeError) as error:
+    except StopIteration as error:
         raise Unsupported('a body that ends early') from error
     if next(row, None) is not None:
         raise Unsupported('a body that goes on after its end')

@@ -2,7 +2,7 @@
  *
  * - The allocation with the number WATCH_REFUSE, counted from 1, is refused, and a byte is added to the file WATCH_REFUSED.
  *   So is each of more than WATCH_LARGEST bytes.
- * - If a block isn't freed at the end, the program ends with the status 97. With WATCH_KEPT blocks may be kept.
+ * - If a block isn't freed at the end, the program ends with the status 97.
  *
  * It includes no header, so that a compiler without any can build it. */
 typedef __SIZE_TYPE__ size_t;
@@ -90,7 +90,7 @@ __attribute__((constructor)) static void begin(void) {
 }
 
 __attribute__((destructor)) static void end(void) {
-    if (!state.watches || state.held == 0 || getenv("WATCH_KEPT")) return;
+    if (!state.watches || state.held == 0) return;
     say(2, "memory was asked for and not given back\n");
     _exit(LEAKED);
 }
