@@ -38,7 +38,7 @@ fn framed<T: Serialize, B: Storage + Drop>(value: &T, storage: B) -> Result<<B a
 /// # Errors
 ///
 /// If `B` is at most `usize::MAX - 2`, fails with `SerializeBufferFull` if and only if the frame is
-/// longer than `B` bytes, but for the [exceptions](crate#errors-of-encoding).
+/// longer than `B` bytes. The [exceptions](crate#errors-of-encoding) apply.
 ///
 /// # Examples
 ///
@@ -60,15 +60,15 @@ pub fn to_vec_cobs<T: Serialize, const B: usize>(value: &T) -> Result<ArrayVec<u
     framed(value, HVec::new())
 }
 
-/// Encodes a value as a frame into the front of `buf`, and returns the frame. The bytes after it
-/// are unchanged. Nothing is allocated.
+/// Encodes a value as a frame into the first bytes of `buf`, and returns the frame. The bytes after
+/// it are unchanged. Nothing is allocated.
 ///
 /// [`fill_slice_cobs`] says in plain clauses what `writes_back` does.
 ///
 /// # Errors
 ///
-/// Fails with `SerializeBufferFull` if and only if the frame is longer than `buf`, but for the
-/// [exceptions](crate#errors-of-encoding). After a failure the content of the buffer is
+/// Fails with `SerializeBufferFull` if and only if the frame is longer than `buf`. The
+/// [exceptions](crate#errors-of-encoding) apply. After a failure the content of the buffer is
 /// unspecified.
 ///
 /// # Examples
@@ -176,8 +176,8 @@ pub fn fill_slice_cobs<T: Serialize>(value: &T, buf: &mut [u8]) -> Result<usize>
 ///
 /// # Errors
 ///
-/// Fails with `SerializeBufferFull`, and only if an allocation fails, but for the
-/// [exceptions](crate#errors-of-encoding).
+/// Fails with `SerializeBufferFull`, only if an allocation fails. The
+/// [exceptions](crate#errors-of-encoding) apply.
 ///
 /// # Examples
 ///

@@ -12,13 +12,13 @@ use std::alloc::Global;
 /// Decodes a value from a reader and a scratch buffer, and returns it with what is left of both,
 /// for the next call. The bytes after the value stay unread.
 ///
-/// Slices and texts that the value borrows, as a `&str`, are in the scratch buffer, of which they
-/// use up as many bytes. A `String` needs as many while it is read and uses up none; numbers need
-/// none. The scratch left is the rear of the one passed; of the whole only the first bytes, at most
-/// as many as were read, may have changed.
+/// A slice or a string that the value borrows is in the scratch buffer, and uses up as many of its
+/// bytes. A `String` needs as many while it is read, and uses up none. Numbers need none. The
+/// scratch that is returned is the end of the one passed. Only the first bytes of the one passed
+/// may have changed, at most as many as were read.
 ///
-/// Over a steady reader it succeeds if a front of the bytes spells a tree that the type reads and
-/// the scratch is at least as long as that front. An allocation may still fail.
+/// Over a steady reader, the call succeeds if the reader's bytes begin with an accepted encoding of
+/// the type, and the scratch is at least as long as that. An allocation may still fail.
 /// [`Plain`](crate::de_flavors::Plain) wraps a reader that is no `Reader`.
 ///
 /// # Errors

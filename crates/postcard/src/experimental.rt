@@ -15,8 +15,8 @@ use postcard_wire::Result;
 ///
 /// # Errors
 ///
-/// Fails with `SerializeBufferFull` if and only if the number exceeds `usize::MAX`, but for the
-/// [exceptions](crate#errors-of-encoding).
+/// Fails with `SerializeBufferFull` if and only if the number exceeds `usize::MAX`. The
+/// [exceptions](crate#errors-of-encoding) apply.
 ///
 /// # Examples
 ///

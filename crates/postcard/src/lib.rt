@@ -9,22 +9,22 @@
 //! let frame = to_slice_cobs(&[0x01u8, 0x00, 0x20, 0x30].as_slice(), &mut buffer)?;
 //! ```
 //!
-//! This is the crate that programs use. Its contracts say what each call promises from end to end:
-//! values have trees, bytes spell trees, and the canonical encoding of a tree is its one shortest
-//! spelling.
+//! This is the crate that programs use. Its contracts say what each call promises from end to end.
+//! Each value has a *tree*. The *canonical encoding* of a tree is the shortest of its accepted
+//! encodings. Contracts say which of these a call writes or reads.
 //!
-//! A value *refuses itself* if its own `Serialize` may fail whatever flavor it is written to. It
-//! breaks a rule of its type, its type begins a list without a length, or it is written as a text
-//! whose `Display` may fail. Of this library's types only a `SystemTime` outside of its range does,
-//! and what contains it; std makes no such time. For a type of your own its shape says so
-//! (`specs/Refusing.antt` of `postcard_shape`).
+//! A value *refuses itself* if its own `Serialize` may fail, whatever the flavor. It breaks a rule
+//! of its type, begins a list without a length, or is written by a `Display` that may fail. In this
+//! library only a `SystemTime` outside of its range does, and what contains it. std makes no such
+//! time. The shape of your own type says so (`specs/Refusing.antt` of `postcard_shape`).
 //!
 //! # Errors of encoding
 //!
-//! Each call that encodes says when it fails with `SerializeBufferFull`, with two exceptions. For a
-//! type whose text may fail to print, the error may be `CollectStrError` instead. A value that
-//! refuses itself may fail in any case, also with an error of its own; if there is room for its
-//! encoding, only with such an error.
+//! Each call that encodes says when it fails with `SerializeBufferFull`. There are two exceptions:
+//!
+//! - For a type whose text may fail to print, the error may be `CollectStrError` instead.
+//! - A value that refuses itself may fail in any case, also with an error of its own. If there is
+//!   room for its encoding, it fails only with such an error.
 //!
 //! # Contents
 //!

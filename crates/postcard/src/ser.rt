@@ -10,16 +10,16 @@ use postcard_ser::{Serialize, Serializer};
 use postcard_ser_flavors::Slice;
 use postcard_wire::{Error, Result};
 
-/// Encodes a value into the front of `buf`, and returns that front: the canonical encoding of the
-/// value's tree. The bytes after it are unchanged. Nothing is allocated.
+/// Encodes a value into the first bytes of `buf`, and returns them: the canonical encoding. The
+/// bytes after them are unchanged. Nothing is allocated.
 ///
 /// [`fill_slice`] says in plain clauses what `writes_back` does.
 ///
 /// # Errors
 ///
-/// Fails with `SerializeBufferFull` if and only if the encoding is longer than `buf`, but for the
-/// [exceptions](crate#errors-of-encoding). The buffer then holds a beginning of the encoding, and
-/// after it the old bytes; if the value refuses itself, its content is unspecified.
+/// Fails with `SerializeBufferFull` if and only if the encoding is longer than `buf`. The
+/// [exceptions](crate#errors-of-encoding) apply. `buf` then begins with a prefix of the encoding,
+/// and its other bytes are unchanged. If the value refuses itself, the content is unspecified.
 ///
 /// # Examples
 ///

@@ -63,7 +63,7 @@ pub trait FromParts: Sized + Drop {
         ensures { Self.seen result ≡ parts };
 }
 
-/// Reads the parts of a value, and makes it of them.
+/// Reads the parts of a value, and makes the value from them.
 ///
 /// # Errors
 ///
@@ -86,8 +86,8 @@ where
 ///
 /// # Errors
 ///
-/// Fails as the `deserialize_owned` of the parts does. The parts that were read before the error are
-/// dropped, and their bytes stay taken.
+/// Fails as the `deserialize_owned` of the parts does. The parts that were read before the error
+/// are dropped, and their bytes stay taken.
 pub fn read_parts_owned<T: FromParts, F: DeFlavor>(
     alloc: Global,
     d: &mut Deserializer<'_, F>,

@@ -21,7 +21,7 @@ use std::io::Write;
 /// # Errors
 ///
 /// Fails with `SerializeBufferFull` if the flavor refuses bytes or can't end, and never if it has
-/// room for the encoding, but for the [exceptions](crate#errors-of-encoding). After a failure the
+/// room for the encoding. The [exceptions](crate#errors-of-encoding) apply. After a failure the
 /// flavor is dropped.
 ///
 /// # Examples
@@ -77,8 +77,8 @@ pub fn to_vec<T: Serialize, const B: usize>(value: &T) -> Result<ArrayVec<u8, B>
 ///
 /// # Errors
 ///
-/// Fails with `SerializeBufferFull`, and only if an allocation fails, but for the
-/// [exceptions](crate#errors-of-encoding).
+/// Fails with `SerializeBufferFull`, only if an allocation fails. The
+/// [exceptions](crate#errors-of-encoding) apply.
 ///
 /// # Examples
 ///
@@ -117,8 +117,8 @@ pub fn to_stdvec<T: Serialize>(alloc: Global, value: &T) -> Result<Vec<u8>>
 ///
 /// # Errors
 ///
-/// Fails with `SerializeBufferFull` if the target refuses bytes, but for the
-/// [exceptions](crate#errors-of-encoding). After a failure the target is dropped.
+/// Fails with `SerializeBufferFull` if the target refuses bytes. The
+/// [exceptions](crate#errors-of-encoding) apply. After a failure the target is dropped.
 ///
 /// # Examples
 ///
@@ -139,9 +139,9 @@ pub fn to_extend<T: Serialize, W: ExtendBytes + Drop>(value: &T, writer: W) -> R
 ///
 /// # Errors
 ///
-/// Fails with `SerializeBufferFull` if the writer or its flush fails, but for the
-/// [exceptions](crate#errors-of-encoding). After a failure the writer is dropped, and may have been
-/// given some of the bytes.
+/// Fails with `SerializeBufferFull` if the writer or its flush fails. The
+/// [exceptions](crate#errors-of-encoding) apply. After a failure the writer is dropped, and may
+/// have been given some of the bytes.
 ///
 /// # Examples
 ///

@@ -82,8 +82,8 @@ pub fn from_bytes<'a, T: Deserialize<'a>, W: Width, I: Implementation<W>>(
 /// Decodes a value that, with its checksum after it, is the whole of `bytes`. The Rust crate has no
 /// such call: its `from_bytes_crc32` ignores what follows the checksum.
 ///
-/// If `bytes` is a message with its checksum in which at most as many bits in a row were changed as
-/// the checksum has, those of the checksum included, it fails (`refuses_damage`). The algorithm's
+/// Fails if `bytes` is a message and its checksum in which a run of bits was changed, no longer
+/// than the checksum (`refuses_damage`). The run may reach into the checksum. The algorithm's
 /// `refin` and `refout` must be true for that.
 ///
 /// # Errors

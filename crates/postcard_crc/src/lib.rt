@@ -1,12 +1,13 @@
-//! Messages with a checksum after them, also in frames, and in frames from a stream. The checksum is
-//! that of the value's encoding, in as many bytes as its type has, the lowest first.
+//! Messages with a checksum after them, also in frames, and in frames from a stream. The checksum
+//! is that of the value's encoding, in as many bytes as its type has, the lowest first.
 //!
 //! # Errors of encoding
 //!
-//! Each call that encodes says when it fails with `SerializeBufferFull`, with two exceptions. For a
-//! type whose text may fail to print, the error may be `CollectStrError` instead. A value that
-//! refuses itself may fail in any case, also with an error of its own; if there is room for the
-//! message, only with such an error.
+//! Each call that encodes says when it fails with `SerializeBufferFull`. There are two exceptions:
+//!
+//! - For a type whose text may fail to print, the error may be `CollectStrError` instead.
+//! - A value that refuses itself may fail in any case, also with an error of its own. If there is
+//!   room for the message, it fails only with such an error.
 #![tactic(auto)]
 
 pub mod de;

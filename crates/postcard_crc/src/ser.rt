@@ -23,8 +23,8 @@ pub use modifier::CrcModifier;
 /// # Errors
 ///
 /// Fails with `SerializeBufferFull` if the flavor refuses bytes or can't end, and never if it has
-/// room for the encoding and the checksum, but for the [exceptions](crate#errors-of-encoding).
-/// After a failure the flavor is dropped.
+/// room for the encoding and the checksum. The [exceptions](crate#errors-of-encoding) apply. After
+/// a failure the flavor is dropped.
 pub fn serialize_with_checksum<
     T: Serialize,
     S: Flavor<Output = O> + Drop,
@@ -51,13 +51,13 @@ pub fn serialize_with_checksum<
     }
 }
 
-/// Encodes a value into the front of `buf`, and its checksum after it, and returns that front.
-/// Nothing is allocated.
+/// Encodes a value into the first bytes of `buf`, and its checksum after it, and returns these
+/// bytes. Nothing is allocated.
 ///
 /// # Errors
 ///
 /// Fails with `SerializeBufferFull` if and only if `buf` has no room for the encoding and the
-/// checksum, but for the [exceptions](crate#errors-of-encoding). After a failure the content of the
+/// checksum. The [exceptions](crate#errors-of-encoding) apply. After a failure the content of the
 /// buffer is unspecified.
 ///
 /// # Examples
@@ -85,7 +85,7 @@ pub fn to_slice<'a, T: Serialize, W: Width, I: Implementation<W>>(
 /// # Errors
 ///
 /// Fails with `SerializeBufferFull` if and only if the encoding and the checksum have more than `B`
-/// bytes, but for the [exceptions](crate#errors-of-encoding).
+/// bytes. The [exceptions](crate#errors-of-encoding) apply.
 pub fn to_vec<T: Serialize, W: Width, I: Implementation<W>, const B: usize>(
     value: &T,
     digest: Digest<'_, W, I>,
@@ -101,8 +101,8 @@ pub fn to_vec<T: Serialize, W: Width, I: Implementation<W>, const B: usize>(
 ///
 /// # Errors
 ///
-/// Fails with `SerializeBufferFull`, and only if an allocation fails, but for the
-/// [exceptions](crate#errors-of-encoding).
+/// Fails with `SerializeBufferFull`, only if an allocation fails. The
+/// [exceptions](crate#errors-of-encoding) apply.
 pub fn to_allocvec<T: Serialize, W: Width, I: Implementation<W>>(
     alloc: Global,
     value: &T,

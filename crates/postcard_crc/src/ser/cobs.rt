@@ -38,15 +38,14 @@ fn framed<T: Serialize, B: Storage + Drop, W: Width, I: Implementation<W>>(
     serialize_with_checksum(value, Cobs::try_new(storage)?, digest)
 }
 
-/// Encodes a value and its checksum as a frame into the front of `buf`, and returns the frame with
-/// its zero. Nothing is allocated. The Rust crate has no such call.
+/// Encodes a value and its checksum as a frame into the first bytes of `buf`, and returns the frame
+/// with its zero. Nothing is allocated. The Rust crate has no such call.
 ///
 /// # Errors
 ///
 /// Fails with `SerializeBufferFull` if the frame is longer than `buf`, and never if `buf` has room
-/// for the frame of the encoding and any checksum, but for the
-/// [exceptions](crate#errors-of-encoding). After a failure the content of the buffer is
-/// unspecified.
+/// for the frame of the encoding and any checksum. The [exceptions](crate#errors-of-encoding)
+/// apply. After a failure the content of the buffer is unspecified.
 pub fn to_slice_cobs<'a, T: Serialize, W: Width, I: Implementation<W>>(
     value: &T,
     buf: &'a mut [u8],
