@@ -50,6 +50,8 @@ impl<T: Shaped + Drop> FromParts for Request<T> {
 }
 
 impl<T: Shaped> Shaped for Request<T> {
+    // The function of `seen` again, for the prover: a shape can't quote the `seen` of a type with a
+    // parameter.
     ghost shape = { via (elim [
       | Request.Get ↦ This tt
       | Request.Set value ↦ Next (This value)

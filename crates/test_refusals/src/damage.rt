@@ -130,7 +130,7 @@ fn copies_are_answered<'a, T: Serialize + Deserialize<'a>>(
 }
 
 /// Asserts the same of a type that borrows nothing.
-fn copies_are_owned<T: Serialize + DeserializeOwned>(
+fn owned_copies_are_answered<T: Serialize + DeserializeOwned>(
     rt: &(impl Abort + AllocGlobal),
     copies: &[Vec<u8>],
 ) {
@@ -205,7 +205,7 @@ pub(crate) fn withstands<T: Serialize + DeserializeOwned>(
     bytes: &[u8],
 ) {
     take_their_room(rt, &value, bytes);
-    copies_are_owned::<T>(rt, &changes(rt, bytes));
+    owned_copies_are_answered::<T>(rt, &changes(rt, bytes));
     let mut frames = frame_changes(rt, bytes);
     frames_are_answered::<Owned<T>>(rt, &mut frames);
     frames_are_kept(rt, bytes, &frames);
