@@ -10,7 +10,7 @@ use postcard_source::error::ProblemAt;
 use std::alloc::{AllocError, AllocFailed};
 use std::fmt;
 
-/// Why no impls are written.
+/// Why no impls are written. The marks are the two comment lines between which `pcard impl` writes.
 #[derive(Clone, Copy, Debug, PartialEq, Eq)]
 pub enum ImplProblem {
     /// The first mark is in the file, and no second one after it.

@@ -60,6 +60,7 @@ fn field<'a>(
     if number >= MAX_FIELDS {
         return Err(problem_at(tokens, words.start, ImplProblem::TooManyFields));
     }
+    // The words without attributes and `pub`.
     let own = bare(tokens, words);
     check_serde(
         tokens,

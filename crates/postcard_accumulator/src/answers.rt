@@ -10,8 +10,8 @@ pub enum FeedResult<'a, T> {
     /// A frame has no room in the accumulator. It is dropped through the zero that ends it, which
     /// may come in a later piece.
     OverFull(&'a [u8]),
-    /// A frame ended that has no value of the type. It is no COBS frame, or no front of its data
-    /// spells a tree that the type reads, or an allocation for the value failed. The frame is
+    /// A frame ended that has no value of the type. It is no COBS frame, or its data doesn't begin
+    /// with an accepted encoding of a value, or an allocation for the value failed. The frame is
     /// dropped.
     DeserError(&'a [u8]),
     /// A frame ended, and its value was decoded.

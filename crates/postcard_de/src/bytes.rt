@@ -7,17 +7,17 @@ use crate::deserializer::Deserializer;
 use postcard_wire::Result;
 use std::alloc::Global;
 
-/// Decodes a value from the front of `bytes`, and returns it with the bytes after that front.
+/// Decodes a value from the first bytes of `bytes`, and returns it with the bytes after them.
 ///
-/// It succeeds if and only if a front of `bytes` spells a tree that the type reads, padded varints
-/// included, and no allocation fails. There is at most one such front. Slices and texts in the
-/// value, as a `&str`, borrow from `bytes`.
+/// It succeeds if and only if `bytes` begins with an accepted encoding of a value of the type, and
+/// no allocation fails. An encoding with padded varints is accepted, too. At most one beginning of
+/// `bytes` is an accepted encoding. A `&str` or a `&[u8]` in the value borrows from `bytes`.
 ///
 /// # Errors
 ///
 /// Fails with the error of the first part that can't be read: `DeserializeUnexpectedEnd` if the
 /// bytes end, an error of `Deserializer`'s calls, or `SerdeDeCustom` if a type refuses what was
-/// read. Fails with `OutOfMemory` if an allocation fails, and only for a type that grows.
+/// read. Fails with `OutOfMemory` if an allocation fails. Only types that allocate do.
 ///
 /// # Examples
 ///

@@ -27,19 +27,10 @@ pub fn number<F: Flavor>(flavor: &mut F, bits: u32) -> Result<u128>
     Err(Error::DeserializeBadVarint)
 }
 
-/// Reads the number of elements of a list or of pairs of a map, or the length of a byte string: a
-/// number of 64 bits.
+/// Reads the number of elements of a list or of pairs of a map, or the length of a text or a byte
+/// string: a number of 64 bits.
 #[inline(always)]
 pub fn count<F: Flavor>(flavor: &mut F) -> Result<usize>
-    ensures { ReadsNode F.Flavor (number_node 64) flavor.old result flavor.new }
-{
-    Ok(number(flavor, 64)? as usize)
-}
-
-/// Reads the length in bytes of a text or a character, as [`count`] does. It is made for short
-/// lengths: most have one byte.
-#[inline(always)]
-pub fn text_len<F: Flavor>(flavor: &mut F) -> Result<usize>
     ensures { ReadsNode F.Flavor (number_node 64) flavor.old result flavor.new }
 {
     let mut digits = Digits::new();
@@ -47,8 +38,8 @@ pub fn text_len<F: Flavor>(flavor: &mut F) -> Result<usize>
     if let Some(count) = digits.push(64, first)? {
         return Ok(count as usize);
     }
-    // No counted loop: the compiler must not unroll the rest. A call would keep the source in
-    // memory.
+    // No counted loop: most counts have one byte, so the compiler must not unroll the rest. A call
+    // would keep the source in memory.
     loop {
         let byte = flavor.pop()?;
         if let Some(count) = digits.push(64, byte)? {

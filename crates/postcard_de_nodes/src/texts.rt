@@ -22,7 +22,7 @@ where
     F: 'de,
     ensures { ReadsNode F.Flavor lent_text_node flavor.old result flavor.new }
 {
-    let count = numbers::text_len(flavor)?;
+    let count = numbers::count(flavor)?;
     let bytes = flavor.try_take_n(count)?;
     if !wire_text::is_utf8(bytes) {
         return Err(Error::DeserializeBadUtf8);
@@ -35,7 +35,7 @@ where
 pub fn text_copy<F: Flavor>(alloc: Global, flavor: &mut F) -> Result<String>
     ensures { ReadsNode F.Flavor text_node flavor.old result flavor.new }
 {
-    let count = numbers::text_len(flavor)?;
+    let count = numbers::count(flavor)?;
     let lent = flavor.try_take_n_temp(count)?;
     if !wire_text::is_utf8(lent) {
         return Err(Error::DeserializeBadUtf8);
@@ -53,7 +53,7 @@ pub fn short_text<F: Flavor, const CAP: usize>(flavor: &mut F) -> Result<ArraySt
     ensures { ReadsNode F.Flavor (seen_node (λ v. v.bytes) (short_text_node CAP))
         flavor.old result flavor.new }
 {
-    let count = numbers::text_len(flavor)?;
+    let count = numbers::count(flavor)?;
     let bytes = flavor.try_take_n_temp(count)?;
     if !wire_text::is_utf8(bytes) {
         return Err(Error::DeserializeBadUtf8);
@@ -71,7 +71,7 @@ pub fn short_text<F: Flavor, const CAP: usize>(flavor: &mut F) -> Result<ArraySt
 pub fn character<F: Flavor>(flavor: &mut F) -> Result<char>
     ensures { ReadsNode F.Flavor char_node flavor.old result flavor.new }
 {
-    let length = numbers::text_len(flavor)?;
+    let length = numbers::count(flavor)?;
     if length > LONGEST_CHAR {
         return Err(Error::DeserializeBadChar);
     }

@@ -15,12 +15,12 @@ use std::alloc::Global;
 /// Decodes a value from the frame at the front of the buffer `s`, in place.
 ///
 /// The frame is the bytes before the first zero, or all bytes if there is no zero. Its data is
-/// written over its front, where slices and texts in the value borrow from; bytes of the data after
-/// the value are ignored. The first zero and the bytes after it stay as they are, whatever the
-/// result (`writes_back`).
+/// written over the first bytes of the frame. A `&str` or a `&[u8]` in the value borrows from
+/// there. Bytes of the data after the value are ignored. The first zero and the bytes after it stay
+/// as they are, whatever the result (`writes_back`).
 ///
-/// It succeeds if and only if the frame has data of which a front spells a tree that the type
-/// reads, and no allocation fails.
+/// It succeeds if and only if the frame has data that begins with an accepted encoding of a value
+/// of the type, and no allocation fails.
 ///
 /// # Errors
 ///

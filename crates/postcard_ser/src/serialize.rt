@@ -19,10 +19,12 @@ pub trait Serialize: Shaped {
     ///
     /// Fails with `SerializeBufferFull` if the flavor refuses a piece. A type that is written as
     /// the text that it prints may fail with `CollectStrError` instead, also if it fails to print.
-    /// One whose values refuse themselves fails with the errors that its shape names. A value
-    /// refuses itself if a part of it does. If the flavor has room for the encoding, no other error
-    /// is returned. What the flavor took before the error stays in it: over a tidy flavor a
-    /// beginning of the encoding, or nothing, unless the value refuses itself.
+    /// A type may refuse some of its values, with the errors that its shape names. A value is
+    /// refused if a part of it is. If the flavor has room for the encoding, no other error is
+    /// returned.
+    ///
+    /// What the flavor took before the error stays in it. Over a tidy flavor that is a beginning of
+    /// the encoding, or nothing. If a value is refused, it may be other bytes.
     fn serialize<F: Flavor>(&self, serializer: &mut Serializer<F>) -> Result<()>
         ensures wrote { Wrote F.Flavor serializer.old.output (canonical (Self.shape.tree self.now))
             (Self.shape.refusal self.now) Self.shape.text result serializer.new.output }

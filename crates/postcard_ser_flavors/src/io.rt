@@ -18,9 +18,9 @@ const BLOCK: usize = 64;
 /// Puts short pieces together, and writes up to 64 bytes at a time to a writer, which it flushes at
 /// the end. Its output is the writer.
 ///
-/// A call fails with `SerializeBufferFull` if the writer fails, which may then have got some of the
-/// bytes held and of those passed. The others are lost. What is held is written by `finalize`, and
-/// by no drop.
+/// A call fails with `SerializeBufferFull` if the writer fails. The writer may have got some of the
+/// bytes held and of those passed then. The others are lost. `finalize` writes what is held. A
+/// flavor that is dropped without it loses that.
 ///
 /// A contract sees the writer and the bytes held. Together they are the bytes of the message so
 /// far, if the writer knows its own.

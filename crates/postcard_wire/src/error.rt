@@ -48,15 +48,14 @@ pub enum Error {
     /// A value refuses itself when it is written, as one of your own types may (see
     /// [`Error::ser_custom`]).
     SerdeSerCustom,
-    /// The bytes spell no value of the type: an unknown variant, a zero for a type without one, a
+    /// The bytes encode no value of the type: an unknown variant, a zero for a type without one, a
     /// duration that is too long, more elements than the capacity. Types of your own may return it,
     /// too (see [`Error::de_custom`]).
     SerdeDeCustom,
-    /// A value written by its `Display` text fails to format, has a text of more than `usize::MAX`
-    /// bytes, or has one that the flavor refuses after its length was written.
+    /// A value that is written as its `Display` text can't be written. Formatting it fails, the
+    /// text has more than `usize::MAX` bytes, or the flavor refuses the text after its length.
     CollectStrError,
-    /// An allocation failed while reading a value that grows. Types that don't grow never return
-    /// it.
+    /// An allocation failed while a value was read. Types that don't allocate never return it.
     OutOfMemory,
 }
 
@@ -71,7 +70,7 @@ impl Error {
         Self::SerdeSerCustom
     }
 
-    /// For bytes that spell no value. The message is not kept.
+    /// For bytes that encode no value. The message is not kept.
     pub fn de_custom<M: Display + Drop>(_msg: M) -> Error
         ensures { result ≡ Error.SerdeDeCustom }
     {

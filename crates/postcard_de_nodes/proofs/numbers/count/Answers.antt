@@ -4,7 +4,7 @@ use Rattle.postcard_de_nodes.specs.{IsWidth}
 use Rattle.postcard_de_nodes.specs.NodeLemmas.{node_passes_on}
 use Rattle.postcard_de_nodes.proofs.VarintLoop.{begun, goes_on, number_excludes, number_read}
 use Rattle.postcard_de_nodes.proofs.VarintLoop.{number_ends, number_bad}
-use Rattle.postcard_de_nodes.proofs.numbers.text_len.Goals as goal
+use Rattle.postcard_de_nodes.proofs.numbers.count.Goals as goal
 
 width : IsWidth 64
 width = inr (inr (inl refl))
