@@ -1,5 +1,5 @@
 /* Measures what calls of postcard.h cost, beside plain C of the same work: nanoseconds a call, the best of 25 loops over 100,000
- * records of different sizes. docs/C.md has what came out; `tools/c-library costs` builds and runs it. */
+ * records of different sizes. docs/C_COSTS.md has what came out; `tools/c-library costs` builds and runs it. */
 #include <stdio.h>
 #include <string.h>
 #include <time.h>

@@ -1,5 +1,6 @@
 /* The time of a byte of longer and longer messages: lists of numbers of 1 to 5 bytes, lists of bytes, and frames of lists of bytes. */
 #include "growth.h"
+#include "crate.h"
 #include "exports.h"
 #include "measure.h"
 #include <math.h>
@@ -12,46 +13,46 @@ static const char *const names[ROWS] = {
     "numbers: to_slice", "numbers: from_bytes", "bytes: to_slice", "bytes: from_bytes", "frame: to_slice_cobs", "frame: from_bytes_cobs",
 };
 
-/* Nanoseconds a byte of the message, of each row and of 10^2, 10^3 .. bytes. */
-static double times[ROWS][SIZES];
+/* Nanoseconds a byte of the message, of each row and of 10^2, 10^3 .. bytes. The crate's are 0 where its side isn't linked. */
+static double times[ROWS][SIZES], times_of_crate[ROWS][SIZES];
 
 static uint8_t *source, *message, *frames;
 static uint32_t *numbers;
 static size_t most;
 
-/* Short messages are measured many at a time. */
-#define MANY(best, prepare, rounds, call)                                                         \
-    BEST_AFTER(best, prepare, ({                                                                  \
-                   uint64_t gave = 0;                                                             \
-                   for (size_t round = 0; round < (rounds) && gave != UINT64_MAX; round++) gave = (call); \
-                   gave;                                                                          \
-               }))
+/* Measures a row at the size `at`, by the functions `name` of the library and the crate. Short messages are measured many at a time. */
+#define MEASURE(row, prepare, name, ...)                                                                        \
+    do {                                                                                                        \
+        double best;                                                                                            \
+        BEST_AFTER(best, prepare, MANY(rounds, port_##name(__VA_ARGS__)));                                      \
+        times[row][at] = best / (double)(rounds * used);                                                        \
+        if (!crate_##name) break;                                                                               \
+        BEST_AFTER(best, prepare, MANY(rounds, crate_##name(__VA_ARGS__)));                                     \
+        times_of_crate[row][at] = best / (double)(rounds * used);                                               \
+    } while (0)
 
 static void measure(int at, size_t size) {
-    double best;
     size_t count = size / 10 * 3, rounds = size < 1000000 ? 1000000 / size : 1, room = most + most / 100;
     size_t used = port_u32s_encode(numbers, count, message, room);
-    MANY(best, , rounds, port_u32s_encode(numbers, count, message, room));
-    times[0][at] = best / (double)(rounds * used);
-    MANY(best, , rounds, port_u32s_decode(message, used));
-    times[1][at] = best / (double)(rounds * used);
+    MEASURE(0, , u32s_encode, numbers, count, message, room);
+    MEASURE(1, , u32s_decode, message, used);
     used = port_bytes_encode(source, size, message, room);
-    MANY(best, , rounds, port_bytes_encode(source, size, message, room));
-    times[2][at] = best / (double)(rounds * used);
-    MANY(best, , rounds, port_bytes_decode(message, used));
-    times[3][at] = best / (double)(rounds * used);
+    MEASURE(2, , bytes_encode, source, size, message, room);
+    MEASURE(3, , bytes_decode, message, used);
     used = port_cobs_encode(source, size, message, room);
-    MANY(best, , rounds, port_cobs_encode(source, size, message, room));
-    times[4][at] = best / (double)(rounds * used);
+    MEASURE(4, , cobs_encode, source, size, message, room);
     /* Decoding is in place, so each round has a frame of its own. */
-    MANY(best, for (size_t k = 0; k < rounds; k++) memcpy(frames + k * used, message, used), rounds, port_cobs_decode(frames + round * used, used));
-    times[5][at] = best / (double)(rounds * used);
+    MEASURE(5, for (size_t k = 0; k < rounds; k++) memcpy(frames + k * used, message, used), cobs_decode, frames + round * used, used);
 }
 
 static void print_rows(void) {
     for (int at = 0; at < SIZES; at++) {
         printf("| 10^%d |", at + 2);
-        for (int row = 0; row < ROWS; row++) printf(" %.3f |", times[row][at]);
+        for (int row = 0; row < ROWS; row++) {
+            printf(" %.3f", times[row][at]);
+            if (times_of_crate[row][at] > 0) printf(" (%.2f)", times[row][at] / times_of_crate[row][at]);
+            printf(" |");
+        }
         printf("\n");
     }
 }

@@ -34,3 +34,16 @@ static inline void fail(const char *what) {
     } while (0)
 
 #define BEST(best, call) BEST_AFTER(best, , call)
+
+/* The sum of the answers of `rounds` calls, each of which may use `round`. It is UINT64_MAX once one refuses. */
+#define MANY(rounds, call)                                                                       \
+    ({                                                                                           \
+        uint64_t sum_ = 0;                                                                       \
+        for (size_t round = 0; round < (rounds); round++) {                                      \
+            __asm__ volatile("" ::: "memory");                                                   \
+            uint64_t gave_ = (call);                                                             \
+            sum_ = gave_ == UINT64_MAX ? gave_ : sum_ + gave_;                                   \
+            if (gave_ == UINT64_MAX) break;                                                      \
+        }                                                                                        \
+        sum_;                                                                                    \
+    })
