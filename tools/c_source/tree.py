@@ -3,6 +3,7 @@ import copy
 
 from .mir import Unsupported, checked, tagged
 
+# The tags of MIR: statements without content, all statements, and the values that an assignment writes.
 WORDS = ('Seq', 'Block', 'Loop', 'Skip', 'Return', 'Unreachable')
 STATEMENTS = WORDS + ('If', 'Switch', 'Assign', 'Call', 'Exit', 'LendStatic')
 VALUES = ('Opd', 'Op1', 'Op2', 'AddrOf', 'Aggregate', 'Repeat', 'Select', 'Vec1', 'Vec2', 'SizeOf', 'NumOf')
