@@ -5,6 +5,8 @@
 #[cfg(test)]
 mod changes;
 #[cfg(test)]
+mod examples;
+#[cfg(test)]
 mod flattened;
 #[cfg(test)]
 mod helpers;
