@@ -1,0 +1,9 @@
+pub mod Rows
+pub mod Refused
+pub mod Typed
+pub mod Views
+pub mod Pushed
+pub mod Made
+pub mod ByKind
+pub mod Built
+pub mod Whole
