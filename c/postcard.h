@@ -34,8 +34,8 @@ enum {
     POSTCARD_BAD_OPTION = 9,     /* the first byte of an option is neither 0 nor 1 */
     POSTCARD_BAD_FRAME = 11,     /* not a COBS frame */
     POSTCARD_BAD_CRC = 12,       /* the bytes after a message are not its checksum */
-    POSTCARD_BAD_VALUE = 13,     /* only from generated code: a value of C is none of its type */
-    POSTCARD_NO_VALUE = 14,      /* only from generated code and postcard_text.h: the bytes encode no value of the type */
+    POSTCARD_BAD_VALUE = 13,     /* from generated code: a value of C is none of its type */
+    POSTCARD_NO_VALUE = 14,      /* from generated code and postcard_text.h: the bytes encode no value of the type */
     POSTCARD_OUT_OF_MEMORY = 16, /* only from postcard_text.h */
     POSTCARD_BAD_TYPE = 17,      /* only from postcard_text.h: not a type expression */
     POSTCARD_BAD_TEXT = 18,      /* only from postcard_text.h: not a value of the type */
