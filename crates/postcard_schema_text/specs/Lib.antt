@@ -13,7 +13,7 @@ pub use Rattle.std.specs.Char.{digit_value, is_ascii_whitespace}
 pub use Rattle.std.specs.List.{AllPass}
 pub use Rattle.std.specs.Str.{IsTrimAsciiStart}
 pub use Rattle.std.specs.Str.Parse.{IsNumeral}
-pub use Rattle.postcard_schema_text.specs.Angled.{IsHolderOf, IsPairOf, IsTypeName, IsWide, MayHold, MayPair}
+pub use Rattle.postcard_schema_text.specs.Angled.{IsAngledName, IsHolderOf, IsIntegerName, IsNameOf, IsPairOf, IsTypeName, IsWide, MayHold, MayPair}
 pub use Rattle.postcard_schema_text.specs.Fronts.{Anything, IsNamed, IsRefusal, ReadsNamed, ReadsType}
 pub use Rattle.postcard_schema_text.specs.Fronts.{Starts, StartsEnum, follows_type, follows_variant}
 pub use Rattle.postcard_schema_text.specs.Fronts.{follows_name as is_after_first_name}
