@@ -1,4 +1,8 @@
 //! Laws of greatest sizes, as contracts of functions that do nothing.
+//!
+//! [`sizes`] and [`within_max_size`] hold for every type. Each other law has the sizes of a family
+//! of types, and says that a size is reached if those of the type's parts are. A size is `None` if
+//! that of a part is, or if the sum or the product does not fit 64 bits.
 
 ghost use Rattle.std.specs.Prelude.{◌≤◌, length, Some, IfSome, [], ◌∷◌, ⊤};
 ghost use Rattle.postcard_max.specs.{AreBounded, IsReached, IsSize, IsSum, IsWilling, canonical};
@@ -37,24 +41,8 @@ pub fn within_max_size<T: MaxSize>(value: &T)
     value.in_forms();
 }
 
-/// The greatest size of each type, and that it is reached if those of the type's parts are.
-///
-/// A size is `None` if that of a part is, or if the sum or the product does not fit 64 bits.
-pub fn table<
-    A: MaxSize,
-    B: MaxSize,
-    C: MaxSize,
-    D: MaxSize,
-    E: MaxSize,
-    G: MaxSize,
-    H: MaxSize,
-    I: MaxSize,
-    J: MaxSize,
-    K: MaxSize,
-    L: MaxSize,
-    M: MaxSize,
-    const N: usize,
->()
+/// The greatest sizes of `bool`, integers, `char`, floats, the unit and `PhantomData`.
+pub fn numbers<A: MaxSize>()
     ensures of_bool { IsSize ⟦<bool as MaxSize>⟧.limit (Some 1) ⊤ }
     ensures of_u8 { IsSize ⟦<u8 as MaxSize>⟧.limit (Some 1) ⊤ }
     ensures of_i8 { IsSize ⟦<i8 as MaxSize>⟧.limit (Some 1) ⊤ }
@@ -73,12 +61,50 @@ pub fn table<
     ensures of_f64 { IsSize ⟦<f64 as MaxSize>⟧.limit (Some 8) ⊤ }
     ensures unit { IsSize ⟦<() as MaxSize>⟧.limit (Some 0) ⊤ }
     ensures phantom { IsSize ⟦<PhantomData<A> as MaxSize>⟧.limit (Some 0) ⊤ }
+{}
+
+/// The greatest sizes of the types of integers without zero.
+pub fn nonzero()
+    ensures nonzero_u8 { IsSize ⟦<NonZeroU8 as MaxSize>⟧.limit (Some 1) ⊤ }
+    ensures nonzero_u16 { IsSize ⟦<NonZeroU16 as MaxSize>⟧.limit (Some 3) ⊤ }
+    ensures nonzero_u32 { IsSize ⟦<NonZeroU32 as MaxSize>⟧.limit (Some 5) ⊤ }
+    ensures nonzero_u64 { IsSize ⟦<NonZeroU64 as MaxSize>⟧.limit (Some 10) ⊤ }
+    ensures nonzero_u128 { IsSize ⟦<NonZeroU128 as MaxSize>⟧.limit (Some 19) ⊤ }
+    ensures nonzero_usize { IsSize ⟦<NonZeroUsize as MaxSize>⟧.limit (Some 10) ⊤ }
+    ensures nonzero_i8 { IsSize ⟦<NonZeroI8 as MaxSize>⟧.limit (Some 1) ⊤ }
+    ensures nonzero_i16 { IsSize ⟦<NonZeroI16 as MaxSize>⟧.limit (Some 3) ⊤ }
+    ensures nonzero_i32 { IsSize ⟦<NonZeroI32 as MaxSize>⟧.limit (Some 5) ⊤ }
+    ensures nonzero_i64 { IsSize ⟦<NonZeroI64 as MaxSize>⟧.limit (Some 10) ⊤ }
+    ensures nonzero_i128 { IsSize ⟦<NonZeroI128 as MaxSize>⟧.limit (Some 19) ⊤ }
+    ensures nonzero_isize { IsSize ⟦<NonZeroIsize as MaxSize>⟧.limit (Some 10) ⊤ }
+{}
+
+/// The greatest sizes of `Option`, `Result` and `Bound`, which have an index before the value.
+pub fn options<A: MaxSize, B: MaxSize>()
     ensures option { IsSize ⟦<Option<A> as MaxSize>⟧.limit (sum_of (Some 1) A.limit.greatest)
         A.limit.reached }
     ensures result { IsSize ⟦<Result<A, B> as MaxSize>⟧.limit
         (sum_of (Some 1) (greater_of A.limit.greatest B.limit.greatest))
         (A.limit.reached × B.limit.reached) }
-    ensures array { IsSize ⟦<[A; N] as MaxSize>⟧.limit (times N A.limit.greatest) A.limit.reached }
+    ensures bound { IsSize ⟦<Bound<A> as MaxSize>⟧.limit
+        (sum_of (Some 1) A.limit.greatest) A.limit.reached }
+{}
+
+/// The greatest sizes of tuples: the sums of those of the parts.
+pub fn tuples<
+    A: MaxSize,
+    B: MaxSize,
+    C: MaxSize,
+    D: MaxSize,
+    E: MaxSize,
+    G: MaxSize,
+    H: MaxSize,
+    I: MaxSize,
+    J: MaxSize,
+    K: MaxSize,
+    L: MaxSize,
+    M: MaxSize,
+>()
     ensures tuple_of_one { IsSum ⟦<(A,) as MaxSize>⟧.limit
         (A.limit.greatest ∷ [])
         A.limit.reached }
@@ -136,6 +162,10 @@ pub fn table<
         (A.limit.reached × B.limit.reached × C.limit.reached × D.limit.reached × E.limit.reached
         × G.limit.reached × H.limit.reached × I.limit.reached × J.limit.reached × K.limit.reached
         × L.limit.reached × M.limit.reached) }
+{}
+
+/// The greatest sizes of ranges, and of `Duration`.
+pub fn ranges<A: MaxSize>()
     ensures duration { IsSize ⟦<Duration as MaxSize>⟧.limit (Some 15) ⊤ }
     ensures range { IsSum ⟦<Range<A> as MaxSize>⟧.limit
         (A.limit.greatest ∷ A.limit.greatest ∷ []) A.limit.reached }
@@ -145,8 +175,10 @@ pub fn table<
         (A.limit.greatest ∷ []) A.limit.reached }
     ensures range_to { IsSum ⟦<RangeTo<A> as MaxSize>⟧.limit
         (A.limit.greatest ∷ []) A.limit.reached }
-    ensures bound { IsSize ⟦<Bound<A> as MaxSize>⟧.limit
-        (sum_of (Some 1) A.limit.greatest) A.limit.reached }
+{}
+
+/// The greatest sizes of wrappers, boxes and references: those of what they hold.
+pub fn wrappers<A: MaxSize>()
     ensures wrapping { IsSize ⟦<Wrapping<A> as MaxSize>⟧.limit A.limit.greatest A.limit.reached }
     ensures saturating { IsSize ⟦<Saturating<A> as MaxSize>⟧.limit A.limit.greatest A.limit.reached }
     ensures reverse { IsSize ⟦<Reverse<A> as MaxSize>⟧.limit A.limit.greatest A.limit.reached }
@@ -157,24 +189,21 @@ pub fn table<
         A.limit.reached }
     ensures reference { IsSize ⟦<&'static A as MaxSize>⟧.limit A.limit.greatest A.limit.reached }
     ensures mutable { IsSize ⟦<&'static mut A as MaxSize>⟧.limit A.limit.greatest A.limit.reached }
-    ensures nonzero_u8 { IsSize ⟦<NonZeroU8 as MaxSize>⟧.limit (Some 1) ⊤ }
-    ensures nonzero_u16 { IsSize ⟦<NonZeroU16 as MaxSize>⟧.limit (Some 3) ⊤ }
-    ensures nonzero_u32 { IsSize ⟦<NonZeroU32 as MaxSize>⟧.limit (Some 5) ⊤ }
-    ensures nonzero_u64 { IsSize ⟦<NonZeroU64 as MaxSize>⟧.limit (Some 10) ⊤ }
-    ensures nonzero_u128 { IsSize ⟦<NonZeroU128 as MaxSize>⟧.limit (Some 19) ⊤ }
-    ensures nonzero_usize { IsSize ⟦<NonZeroUsize as MaxSize>⟧.limit (Some 10) ⊤ }
-    ensures nonzero_i8 { IsSize ⟦<NonZeroI8 as MaxSize>⟧.limit (Some 1) ⊤ }
-    ensures nonzero_i16 { IsSize ⟦<NonZeroI16 as MaxSize>⟧.limit (Some 3) ⊤ }
-    ensures nonzero_i32 { IsSize ⟦<NonZeroI32 as MaxSize>⟧.limit (Some 5) ⊤ }
-    ensures nonzero_i64 { IsSize ⟦<NonZeroI64 as MaxSize>⟧.limit (Some 10) ⊤ }
-    ensures nonzero_i128 { IsSize ⟦<NonZeroI128 as MaxSize>⟧.limit (Some 19) ⊤ }
-    ensures nonzero_isize { IsSize ⟦<NonZeroIsize as MaxSize>⟧.limit (Some 10) ⊤ }
+{}
+
+/// The greatest sizes of addresses of the Internet.
+pub fn addresses()
     ensures ipv4 { IsSize ⟦<Ipv4Addr as MaxSize>⟧.limit (Some 4) ⊤ }
     ensures ipv6 { IsSize ⟦<Ipv6Addr as MaxSize>⟧.limit (Some 16) ⊤ }
     ensures ip { IsSize ⟦<IpAddr as MaxSize>⟧.limit (Some 17) ⊤ }
     ensures socket_v4 { IsSize ⟦<SocketAddrV4 as MaxSize>⟧.limit (Some 7) ⊤ }
     ensures socket_v6 { IsSize ⟦<SocketAddrV6 as MaxSize>⟧.limit (Some 19) ⊤ }
     ensures socket { IsSize ⟦<SocketAddr as MaxSize>⟧.limit (Some 20) ⊤ }
+{}
+
+/// The greatest sizes of arrays, and of vectors and strings with a capacity.
+pub fn capacities<A: MaxSize, const N: usize>()
+    ensures array { IsSize ⟦<[A; N] as MaxSize>⟧.limit (times N A.limit.greatest) A.limit.reached }
     ensures vector { IsSize ⟦<ArrayVec<A, N> as MaxSize>⟧.limit
         (sum_of (times N A.limit.greatest) (Some (varint_len N))) A.limit.reached }
     ensures short_text { IsSize ⟦<ArrayString<N> as MaxSize>⟧.limit

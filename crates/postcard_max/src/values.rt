@@ -1,5 +1,5 @@
-//! The greatest sizes of the types of std and of `arrayvec`, a module for each kind; `table` has
-//! them all.
+//! The greatest sizes of the types of std and of `arrayvec`, a module for each kind. `laws` says
+//! which they are.
 
 mod fixed;
 mod floats;

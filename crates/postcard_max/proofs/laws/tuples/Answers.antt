@@ -1,10 +1,6 @@
--- The greatest sizes of long tuples, and of an end of a range: the index, and the value.
-use Rattle.std.proofs.Common.{refl, arith}
-use Rattle.postcard_max.proofs.Greatest.{greatest_of_bound}
-use Rattle.postcard_max.proofs.laws.table.Goals as goal
-
-pub returns-clause-bound : goal.returns-clause-bound
-returns-clause-bound g c = (greatest_of_bound g.A.MaxSize.limit.greatest, λ r. (tt, (omega arith, r, (omega arith, r, tt))))
+-- Long tuples: the sum is that of the definition, and each part reaches its size.
+use Rattle.std.proofs.Common.{refl}
+use Rattle.postcard_max.proofs.laws.tuples.Goals as goal
 
 pub returns-clause-tuple_of_eight : goal.returns-clause-tuple_of_eight
 returns-clause-tuple_of_eight g c = (refl, λ (a, b, d, e, f, h, i, j). (a, (b, (d, (e, (f, (h, (i, (j, tt)))))))))
