@@ -76,7 +76,7 @@ pub contents_append : {A : Type 0} (ns ms : List (Named A)) → contents (ns ++ 
 contents_append [] ms = refl
 contents_append (n ∷ ns) ms = ap (λ xs. n.content ∷ xs) (contents_append ns ms)
 
--- A list of names has as many contents.
+-- A list of names has one content for each name.
 pub contents_length : {A : Type 0} (ns : List (Named A)) → length (contents ns) ≡ length ns
 contents_length [] = refl
 contents_length (n ∷ ns) = ap suc (contents_length ns)

@@ -1,4 +1,4 @@
--- Which parts of a type have no greatest size: its texts, byte strings, lists and maps, each by its path.
+-- Which parts of a type have no greatest size: its strings, byte strings, lists and maps, each by its path.
 use Rattle.std.specs.Prelude.{ℕ, ◌+◌, nat_lt, Bool, true, false, if◌then◌else◌, List, [], ◌∷◌, ◌++◌, map, string_bytes, box_value}
 use Rattle.std.specs.List.{flat_map}
 use Rattle.postcard_schema.specs.Paths.{PlainStep, at_name, at_part, at_each}

@@ -1,4 +1,4 @@
--- Lemmas on the front of a text: at most one sign, or one whole word, is next after blanks.
+-- Lemmas on prefixes of a text: at most one sign, or one whole word, is next after blanks.
 use Rattle.std.proofs.Common.{◌≡◌, ℕ, zero, suc, ◌+◌, ◌<◌, Bool, true, false, cond, List, [], ◌∷◌, ◌++◌, length, get_or, drop, refl, sym, ap, subst, ◌∙◌, true≢false, arith, inl, inr}
 use Rattle.std.proofs.lemmas.Bool.Decides.{nat_tests}
 use Rattle.std.proofs.lemmas.List.{append_assoc}

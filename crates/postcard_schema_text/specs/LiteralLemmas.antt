@@ -1,4 +1,4 @@
--- Lemmas on literals: a text spells one number at most, in bytes of a word, and which one.
+-- Lemmas on literals: a text denotes one number at most, in bytes of a word, and which one.
 use Rattle.std.proofs.Common.{◌≡◌, ℕ, zero, suc, ◌<◌, ◌≤◌, Bool, true, false, cond, List, [], ◌∷◌, length, get_or, refl, sym, ap, subst, ◌∙◌, true≢false, arith, ◌⊎◌, inl, inr}
 use Rattle.std.proofs.lemmas.Bool.Decides.{nat_tests}
 use Rattle.std.specs.Char.{is_digit}
@@ -43,7 +43,7 @@ most letter = grind (arith, nat_tests)
 no_decimal : (letter : ℕ) → 2 ≤ radix_of letter → is_of_digits 10 letter ≡ false
 no_decimal letter low = grind (arith, nat_tests, low)
 
--- A literal with a letter that stands for a radix has digits of that.
+-- A literal with a letter that stands for a radix has digits of that radix.
 pub marked_is : (n letter : ℕ) (digits text : List ℕ) → text ≡ 48 ∷ letter ∷ digits → 2 ≤ radix_of letter → IsLiteral n text → AreDigits (radix_of letter) n digits
 marked_is n letter digits text is low (inl (first, ((some, all), e))) =
     let pass = subst (AllPass (is_of_digits 10)) is (of_digits 10 text all) in
@@ -59,7 +59,7 @@ plain_is n text none (inl h) = h
 plain_is n text none (inr (letter, digits, h, e)) =
     absurd (no_digits (without_underscores digits) (subst (λ r. IsNumeral r (without_underscores digits)) (none letter digits e) h.0))
 
--- A text spells one number.
+-- A text denotes at most one number.
 pub one_literal : (n m : ℕ) (text : List ℕ) → IsLiteral n text → IsLiteral m text → n ≡ m
 one_literal n m text (inl a) (inl b) = a.1.1 ∙ sym b.1.1
 one_literal n m text (inr (letter, digits, a, e)) b =
