@@ -24,7 +24,7 @@ pub struct Explanation<'a> {
 /// Says of bytes line by line which part of a value of the schema they are. Each byte is on one
 /// line, in order.
 ///
-/// The lines are those of the value at the front of the bytes, as `postcard_value::take_from_bytes`
+/// The lines are those of the value at the start of the bytes, as `postcard_value::take_from_bytes`
 /// reads it. Each value without parts, count, index and byte of an option has a line. Each tuple,
 /// struct or array in another value and each entry of a map has one without bytes. The bytes after
 /// the value are the last line, if there are some. If a part can't be read, its line is the last,

@@ -1,6 +1,6 @@
 //! The walk over a value: the lines of each kind of part.
 //!
-//! A function adds the lines of what it is named after, at the front of the bytes, and returns the
+//! A function adds the lines of what it is named after, at the start of the bytes, and returns the
 //! bytes after it. Of a list, the elements after the first `most` are on one line. A function fails
 //! with `OutOfMemory` if an allocation fails, and with the error of a part that can't be read, once
 //! its line is added.

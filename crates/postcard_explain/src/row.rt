@@ -61,7 +61,7 @@ impl<'a> Row<'a> {
     }
 }
 
-/// Returns the bytes after the item at the front of the bytes. Fails as [`take_from_bytes`] does.
+/// Returns the bytes after the item at the start of the bytes. Fails as [`take_from_bytes`] does.
 pub(crate) fn skip_item<'a>(alloc: Global, item: Item<'_>, bytes: &'a [u8]) -> Result<&'a [u8]>
     ensures skipped { IfOk result (λ rest. (front : List ℕ)
         × FrontSpells (item_type (item_of item.entry)) front × (bytes.now ≡ front ++ rest.now)) }

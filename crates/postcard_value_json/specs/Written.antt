@@ -26,7 +26,7 @@ use Rattle.serde_json.specs.View.{items_of}
 abbrev pub Writer : Type 0
 Writer = Tree → Option Data
 
--- The JSON of a number: a number if its magnitude is below 2^53, so that each reader of JSON keeps it, and else a string of its
+-- The JSON of a number: a number if its magnitude is below 2^53, so that each reader of JSON keeps it. Otherwise it is a string of its
 -- decimal digits.
 abbrev pub unsigned_json : ℕ → Data
 unsigned_json n = if nat_lt n 9007199254740992 then number (unsigned n) else string (decimal n)
@@ -153,12 +153,12 @@ entry_json key value = tuple_json (key ∷ value ∷ [])
 abbrev pub FieldWriter : Type 0
 FieldWriter = List ℕ × Writer
 
--- The members, and one more, unless there is one with this name.
+-- The members and one more. It is `None` if there already is one with this name.
 abbrev pub add_member : List ℕ → Data → Members → Option Members
 add_member n d ms = if is_some (get_member n ms) then None else Some (put n d ms)
 
--- Some members, and after them the JSON of trees, each as a field; `None` if there are more fields than trees, or fewer, or two
--- fields with one name.
+-- Some members, and after them the JSON of trees, each as a field. It is `None` if the numbers of fields and trees differ, or two fields
+-- have the same name.
 abbrev pub members_json : List FieldWriter → Trees → Members → Option Members
 members_json [] NoTrees ms = Some ms
 members_json (f ∷ fs) (Then t ts) ms = option_and_then (λ d. option_and_then (members_json fs ts) (add_member f.0 d ms)) (f.1 t)
@@ -172,7 +172,7 @@ abbrev pub struct_json : List FieldWriter → Writer
 struct_json fs (nodes.Group ts) = fields_json fs ts
 struct_json fs t = None
 
--- The JSON of a variant: its name as a string if its content is the unit, and else an object with the name and the content.
+-- The JSON of a variant: its name as a string if its content is the unit. Otherwise it is an object with the name and the content.
 abbrev pub variant_json : List ℕ → Layout → Writer → Writer
 variant_json n x p t = if is_unit x then Some (string n) else option_map (alone n) (p t)
 

@@ -1,4 +1,4 @@
--- Lemmas on tuples, structs and entries of maps that are read, as the only trees that the JSON spells.
+-- Lemmas on tuples, structs and entries of maps that are read, as the only trees that the JSON denotes.
 use Rattle.std.proofs.Common.{◌≡◌, ℕ, zero, suc, ◌<◌, List, [], ◌∷◌, ◌++◌, map, length, get_or, Some, string_bytes, refl, sym, ap, ap₂, subst, ◌∙◌, arith}
 use Rattle.postcard_wire.specs.Tree.{Tree, Trees, NoTrees, Then, trees}
 use Rattle.postcard_wire.specs.Tree as nodes

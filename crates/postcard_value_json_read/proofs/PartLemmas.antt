@@ -1,4 +1,4 @@
--- One item or member off the front of a text.
+-- One item or member off the prefix of a text.
 use Rattle.std.proofs.Common.{◌≡◌, ℕ, zero, suc, ◌<◌, map, length, drop, get_or, arith, Bool, true, false, List, [], ◌∷◌, ◌++◌, refl, sym, ap, subst, ◌∙◌, inl, inr, true≢false}
 use Rattle.std.specs.Prelude.{◌==◌, ◌||◌}
 use Rattle.std.proofs.lemmas.Bool.{eqb-true, or_cases}
@@ -75,7 +75,7 @@ sign_taken false sign old new rest black take none h = absurd (none refl black r
 
 -- ---- items
 
--- What a call leaves that skips the value at the front.
+-- What a call leaves that skips the value at the prefix.
 abbrev pub Skips : List ℕ → List ℕ → Type 0
 Skips text after = (value rest : List ℕ) → IsValue value → EndsScalar rest → text ≡ value ++ rest → after ≡ rest
 

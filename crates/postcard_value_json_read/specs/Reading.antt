@@ -53,8 +53,8 @@ abbrev pub bits_near : FloatType → Float → ℕ
 bits_near F32 x = to_bits binary32 (round_to_format binary32 x)
 bits_near F64 x = to_bits binary64 x
 
--- The JSON is a number whose nearest float has these bits, or a string that spells them in the notation of `postcard_value_text`.
--- The number is first rounded to 64 bits.
+-- The JSON is a number whose nearest float has these bits, or a string that denotes them in the notation of `postcard_value_text`. The
+-- number is first rounded to 64 bits.
 abbrev pub IsFloatJson : FloatType → ℕ → Data → Type 0
 IsFloatJson f bits (number n) = bits ≡ bits_near f (to_float n)
 IsFloatJson f bits (string s) = SpellsFloat (format_of f) bits s

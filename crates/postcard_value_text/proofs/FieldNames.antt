@@ -10,7 +10,7 @@ use Rattle.postcard_value_text.specs.Spelled.{Phrase, IsQuotedName, IsFieldName}
 use Rattle.postcard_value_text.proofs.Blanks.{led_then, word_trimmed}
 use Rattle.postcard_value_text.proofs.Fronts.{one_rest}
 
--- The rest of a name and the quote after it.
+-- The remaining bytes of a name and the quote after it.
 abbrev ended : List ℕ → Phrase
 ended name = λ end. end ≡ name ++ 34 ∷ []
 

@@ -1,6 +1,6 @@
--- The text of a value of a type with names, on one line. The contract of std doesn't say how a text or a character that isn't ASCII is
--- escaped, and that of `ryu` not which digits a float has. Nothing is said then of the whole text (`None`). The text of a float alone
--- spells it (`ShowsFloat`).
+-- The text of a value of a type with names, on one line. The contract of std doesn't say how a string or a character that isn't ASCII is
+-- escaped. The contract of `ryu` doesn't say which digits a float has. Nothing is said then of the whole text (`None`). The text of a float
+-- alone denotes it (`ShowsFloat`).
 use Rattle.std.specs.Prelude.{ℕ, zero, suc, ◌/◌, ◌%◌, Bool, true, false, not, ◌&&◌, ◌==◌, nat_lt, if◌then◌else◌, List, [], ◌∷◌, ◌++◌, Option, Some, None, codes}
 use Rattle.std.specs.Fmt.{◌++?◌, decimal, signed_decimal, digits, debug_char, debug_str}
 use Rattle.postcard_wire.specs.Tree.{Tree, Trees, Byte, Boolean, Num, Int, Text, NoTrees, Then}
