@@ -1,9 +1,9 @@
--- When the same bytes spell the trees of two sets.
+-- Two sets of trees that have the same encodings, or of which one has those of the other.
 use Rattle.std.specs.Prelude.{⊤}
 use Rattle.postcard_wire.specs.Tree.{Tree, Trees}
 use Rattle.postcard_described.specs.SameBytes.{SameBytes, SameRow, same_tree, same_row}
 
--- Each tree of the first set has one of the second that the same bytes spell.
+-- Each tree of the first set has one of the second that the same bytes encode.
 abbrev pub Covered : (Tree → Type 0) → (Tree → Type 0) → Type 0
 Covered F G = (t : Tree) → F t → (u : Tree) × G u × SameBytes t u
 
