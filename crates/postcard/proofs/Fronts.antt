@@ -36,7 +36,7 @@ pub is_false : (b : Bool) → T (not b) → b ≡ false
 is_false true t = absurd t
 is_false false t = refl
 
--- If bs was written over the front of xs, the front of length bs is bs.
+-- If bs was written over the first bytes of xs, the prefix of length bs is bs.
 in_front : (n : ℕ) (bs xs all : List ℕ) → n ≡ length bs → all ≡ bs ++ drop (length bs) xs → take n all ≡ bs
 in_front n bs xs all long is = (λ i. take (long i) (is i)) ∙ take-append_seam bs (drop (length bs) xs)
 
@@ -46,8 +46,7 @@ none_left (Ok x) = tt
 none_left (Err e) = tt
 
 module _ {V : Type 0} (s : Shape V) (v : V) (xs : List ℕ) (left : List ℕ → Type 0) (old : List ℕ) (d : Attempt) (r : Result (MutBor (List ℕ)) Error) (done : IsAttempt s v xs left old d) (cut : LendsAttempt d r) where
-  -- What the caller writes through the front is then at the front of the buffer, before the old
-  -- bytes.
+  -- What the caller writes through the prefix is then at the start of the buffer, before the old bytes.
   pub follows_front : (front : List ℕ) → IsOk r → front ++ drop d.count d.all.now ≡ front ++ drop (length xs) old
   follows_front front ok =
       let w = done.written (cut.sorts.0 ok) in
@@ -63,7 +62,7 @@ module _ {V : Type 0} (s : Shape V) (v : V) (xs : List ℕ) (left : List ℕ →
       by_answer (Err _) true sorts k = k refl
       by_answer (Err _) false sorts k = absurd (never_true (sorts.1 refl))
 
-  -- The front that is lent is the bytes that were to be written.
+  -- The prefix that is lent is the bytes that were to be written.
   pub gives : IfOk r (λ x. x.now ≡ xs)
   gives = by_answer r d.failed cut.sorts cut.front (λ z. in_front d.count xs old d.all.now (done.written z).0 (done.written z).1)
     where
@@ -71,7 +70,7 @@ module _ {V : Type 0} (s : Shape V) (v : V) (xs : List ℕ) (left : List ℕ →
       by_answer (Ok x) b sorts w k = w ∙ k (sorts.0 refl)
       by_answer (Err _) b sorts w k = tt
 
-  -- No other spelling of the tree is as short as the front, if the bytes are its encoding.
+  -- No other accepted encoding of the tree is as short as the prefix, if the bytes are its encoding.
   pub shortest : xs ≡ canonical (s.tree v) → IfOk r (λ x. (p : List ℕ) → Spells (s.tree v) p → (p ≡ x.now) ⊎ (length x.now < length p))
   shortest is = by_answer r gives
     where
@@ -108,7 +107,7 @@ module _ {V : Type 0} (s : Shape V) (v : V) (xs : List ℕ) (left : List ℕ →
       by_answer (Ok x) b sorts k = k (sorts.0 refl)
       by_answer (Err _) b sorts k = tt
 
-  -- The front that is lent spells the tree, if the bytes are its encoding.
+  -- The prefix that is lent encodes the tree, if the bytes are its encoding.
   pub spelled : xs ≡ canonical (s.tree v) → IfOk r (λ x. Spells (s.tree v) x.now)
   spelled is = by_answer r gives fits
     where
@@ -116,7 +115,7 @@ module _ {V : Type 0} (s : Shape V) (v : V) (xs : List ℕ) (left : List ℕ →
       by_answer (Ok x) h f = subst (λ (l : List ℕ). Spells (s.tree v) l) (sym (h ∙ is)) (is_spelled s v f)
       by_answer (Err _) h f = tt
 
-  -- The front that is lent decodes to the data, if the bytes are its frame.
+  -- The prefix that is lent decodes to the data, if the bytes are its frame.
   pub decodes : (content : List ℕ) → xs ≡ made content → IfOk r (λ x. DecodesTo x.now content)
   decodes content is = by_answer r gives
     where
@@ -124,7 +123,7 @@ module _ {V : Type 0} (s : Shape V) (v : V) (xs : List ℕ) (left : List ℕ →
       by_answer (Ok x) h = frame_decodes x.now content (h ∙ is)
       by_answer (Err _) h = tt
 
--- If the whole buffer ends as F of the front, it satisfies any relation that F satisfies.
+-- If the whole buffer ends as F of the prefix, it satisfies any relation that F satisfies.
 module _ {M : Type 1} {𝓤 : Ura M} (𝓛 : Logic 𝓤) (R U : RattleType) (γ : GName) (m : Option GName) (F : U.Denot → R.Denot) (v : R.Denot) (P : U.Denot → R.Denot → Type 0) (P₀ : R.Denot → Type 0) where
   pub follows_such : ((w : U.Denot) → P w (F w)) → P₀ v → ent 𝓤 (sem 𝓛 (follows_if R U γ m F v)) (sem 𝓛 (follows_so R U γ m P P₀))
   unfolding such_by

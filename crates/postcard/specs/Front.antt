@@ -1,4 +1,4 @@
--- What a decoding call returns for the front of its reader's bytes.
+-- What a decoding call returns for the prefix of its reader's bytes.
 use Rattle.std.specs.Prelude.{◌≡◌, ℕ, ◌+◌, ◌≤◌, List, length, Option, Result, MatchResult}
 use Rattle.std.specs.Borrow.{MutBor}
 use Rattle.std.specs.Io.KnownBytes.{Consumes}
@@ -10,10 +10,10 @@ use Rattle.postcard_shape.specs.Shape.{Shape, Grows}
 use Rattle.postcard_de_flavors.specs.Reader.{AtLeast}
 use Rattle.postcard_de_flavors.specs.Source.{Begins, KeepsRear}
 
--- The bytes `front` spell a tree that is read, and v is that tree's value. If the reader knows its bytes, they begin with `front`, and just
--- it was read. The scratch left, `rest`, is a part at the rear of the scratch, in which only bytes among the first of the whole, as many as
--- `front` has, may have changed. Let a steady reader have at least n bytes after `front`, and the scratch room for `front` and n bytes.
--- Then the reader and the scratch each have at least n bytes left.
+-- The bytes `front` encode a tree that is read, and v is that tree's value. If the reader knows its bytes, they begin with `front`, and
+-- just it was read. The scratch left, `rest`, is a part at the rear of the scratch, in which only bytes among the first of the whole, as
+-- many as `front` has, may have changed. Let a steady reader have at least n bytes after `front`, and the scratch room for `front` and n
+-- bytes. Then the reader and the scratch each have at least n bytes left.
 pub record ReadsReader {R V : Type 0} (reads : Tree → Type 0) (value : Tree → V → Type 0) (remaining : R → Option (List ℕ)) (steady : R → Type 0) (old : R) (scratch : List ℕ) (v : V) (new : R) (rest : List ℕ) : Type 0 where
   pub tree : Tree
   pub front : List ℕ
@@ -27,8 +27,8 @@ pub record ReadsReader {R V : Type 0} (reads : Tree → Type 0) (value : Tree �
 -- A call read a value of that shape from a steady reader in the state `old`, with the scratch; it returned r, the value
 -- and what is left of both.
 module _ {V R : Type 0} (shape : Shape V) (remaining : R → Option (List ℕ)) (steady : R → Type 0) (old : R) (scratch : List ℕ) (r : Result (V × (R × MutBor (List ℕ))) Error) where
-  -- If the reader's bytes begin with a front that spells a tree that is read, and the scratch is as long, the call succeeds. It returns a
-  -- value of that tree and has read just that front. A type that grows may run out of memory.
+  -- If the reader's bytes begin with a prefix that encodes a tree that is read, and the scratch is as long, the call succeeds. It returns a
+  -- value of that tree and has read just that prefix. A type that grows may run out of memory.
   abbrev pub AcceptsReader : Type 0
   AcceptsReader = (t : Tree) (front : List ℕ) → shape.reads t → Spells t front
       → steady old → Begins (remaining old) front → length front ≤ length scratch

@@ -119,15 +119,15 @@ parts_len t ts = length-append (canonical t) (canonical_all ts)
 pub variant_len : (i : ℕ) (t : Tree) → length (canonical (Variant i t)) ≡ length (digits i) + length (canonical t)
 variant_len i t = length-append (digits i) (canonical t)
 
--- The canonical encoding of a well formed tree spells it.
+-- The canonical encoding of a well formed tree encodes it.
 pub canonical_spells : (t : Tree) → WellFormed t → Spells t (canonical t)
 canonical_spells = shortest.Spells-canonical
 
--- Any spelling of a tree other than its canonical encoding is longer.
+-- Any accepted encoding of a tree other than its canonical encoding is longer.
 pub others_longer : (t : Tree) (p : List ℕ) → Spells t p → (p ≡ canonical t) ⊎ (length (canonical t) < length p)
 others_longer = shortest.least
 
--- No spelling of a tree is shorter than its canonical encoding.
+-- No accepted encoding of a tree is shorter than its canonical encoding.
 pub spelling_len : (t : Tree) (p : List ℕ) → Spells t p → length (canonical t) ≤ length p
 spelling_len t p s =
     elim (others_longer t p s) [
@@ -135,7 +135,7 @@ spelling_len t p s =
       | inr h ↦ omega (arith, h)
     ]
 
--- What is written for a value that fits spells its tree.
+-- What is written for a value that fits encodes its tree.
 pub written_spells : {V : Type 0} (s : Shape V) (v : V) → s.fits v → Spells (s.tree v) (canonical (s.tree v))
 written_spells = again.is_spelled
 

@@ -22,6 +22,6 @@ fewer zero k n h = refl
 fewer (suc j) zero n h = absurd (omega arith)
 fewer (suc j) (suc k) n h = ap (λ (bs : List ℕ). n % 256 ∷ bs) (fewer j k (n / 256) (omega arith))
 
--- The front of the sixteen bytes.
+-- The prefix of the sixteen bytes.
 pub front_bytes : (j n : ℕ) (bytes : List ℕ) → bytes ≡ to_le_bytes w128 n → j ≤ 16 → take j bytes ≡ low_bytes j n
 front_bytes j n bytes e h = ap (take j) (e ∙ by_places 16 0 n ∙ ap (low_bytes 16) (div-one n)) ∙ fewer j 16 n h

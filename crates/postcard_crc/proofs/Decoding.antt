@@ -51,7 +51,7 @@ module _ (old : List ℕ) (d : DecodedFrame) (long : length d.all.now ≡ length
         has_data = ((λ _. none), (λ some. absurd (omega (arith, size, ends, some))));
       }
 
--- The data that was left lies in the front, and the front and the rest are the buffer.
+-- The data that was left lies in the prefix, and the prefix and the rest are the buffer.
 pub data_within : (old : List ℕ) (d : DecodedFrame) → IsDecodedFrame old d → d.data_len ≤ length (take d.frame_len d.all.now)
 data_within old d is =
     let size : length (take d.frame_len d.all.now) ≡ d.frame_len = length-take-le d.frame_len d.all.now is.within.1 in

@@ -11,7 +11,7 @@ use Rattle.postcard_wire.specs.declared.error.Error.TheVariants.{OutOfMemory, De
 use Rattle.postcard_shape.specs.Shape.{Shape, Grows}
 
 module _ {V : Type 0} (shape : Shape V) (k : ℕ) (d : Progress) (bytes : List ℕ) where
-  -- Let a front of the bytes spell a tree that is read, and the k bytes of its checksum, by what the digest d has taken, and then `rest`
+  -- Let a prefix of the bytes encode a tree that is read, and the k bytes of its checksum, by what the digest d has taken, and then `rest`
   -- follow. The call returns a value of that tree and the rest. A type that grows may run out of memory.
   abbrev pub AcceptsFrontAndRest : Result (V × Bor (List ℕ)) Error → Type 0
   AcceptsFrontAndRest r = (t : Tree) (a : Parameters) (m front rest : List ℕ) (crc : ℕ)

@@ -1,4 +1,4 @@
--- What a decoding call with a checksum returns for the frame at the front of its buffer.
+-- What a decoding call with a checksum returns for the frame at the start of its buffer.
 use Rattle.std.specs.Prelude.{◌≡◌, ◌⊎◌, ℕ, List, [], ◌++◌, Result, IfOk, IfErr, IsErrOf, OnOk, MatchResult}
 use Rattle.crc.specs.Crc.{Parameters, IsCrc, IsSound}
 use Rattle.crc.specs.Digest.{Progress, Took}
@@ -15,8 +15,8 @@ use Rattle.postcard_frame.specs.Frame.{HasNoData}
 use Rattle.postcard_crc.specs.Reading.{ReadsFrameChecked, HasExactErrors, IsDamaged}
 
 module _ {V : Type 0} (shape : Shape V) (k : ℕ) (d : Progress) (frame : List ℕ) (r : Result V Error) where
-  -- The call succeeds if the frame's data is a front that spells a tree that the type reads, followed by
-  -- the k bytes of its checksum. The digest d has taken what comes before.
+  -- The call succeeds if the frame's data is a prefix that encodes a tree that the type reads, followed by the k bytes of its checksum. The
+  -- digest d has taken what comes before.
   abbrev pub AcceptsChecked : Type 0
   AcceptsChecked = (t : Tree) (a : Parameters) (m front : List ℕ) (crc : ℕ) → shape.reads t → Spells t front
       → IsSound a → Took d a m → IsCrc a (m ++ front) crc → Groups frame (front ++ low_bytes k crc)

@@ -10,8 +10,7 @@ use Rattle.postcard_accumulator.specs.declared.answers.Answer.{Answer}
 use Rattle.postcard_accumulator.specs.declared.answers.Answer.TheVariants.{OverFull, DeserError}
 use Rattle.postcard_accumulator.specs.declared.answers.Answer.TheVariants.{Success}
 
--- The frame's data is the spelling of a tree that the type reads, and then just its checksum in k
--- bytes; v is that tree's value.
+-- The frame's data is the accepted encoding of a tree that the type reads, and then just its checksum in k bytes; v is that tree's value.
 pub record IsValueOf {T : Type 0} (shape : Shape T) (k : ℕ) (a : Parameters) (frame : List ℕ) (v : T)
     : Type 0 where
   pub content : List ℕ

@@ -1,4 +1,4 @@
--- The bytes before the rest are the front.
+-- The bytes before the rest are the prefix.
 use Rattle.std.proofs.Common.{◌++◌, subst}
 use Rattle.crc.specs.Digest.{Took}
 use Rattle.postcard_crc.proofs.Split.{front_of}

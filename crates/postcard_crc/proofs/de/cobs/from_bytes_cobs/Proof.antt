@@ -132,7 +132,7 @@ walk decodes reads 𝓤 𝓛 𝓜 𝓡 wired T W I LT LW LI copies Gh D Sh Ds Wh
     let kept : KeepsFromZero xs (front ++ p.1.now) = subst (λ (m : List ℕ). KeepsFromZero xs (front ++ m)) (sym back_is) (keeps_all xs d made) in
     use1 𝓛 (‵ (follows_so (Array u8 0) (Array u8 0) d.all.ghost_name none (λ _ _. ⊤) (KeepsFromZero xs))) (ends_so 𝓛 (Array u8 0) d.all.ghost_name (front ++ p.1.now) (KeepsFromZero xs) kept) $
     rewrite ! 0 (λ (δ : GName). ‵ (follows_so (Array u8 0) (Array u8 0) δ none (λ _ _. ⊤) (KeepsFromZero xs))) same refl $
-    -- [what the whole ends as; the front; the token; the allocator; the other tokens; the digest]
+    -- [what the whole ends as; the prefix; the token; the allocator; the other tokens; the digest]
     sets ! (of_opd ! (get ! refl)) refl digest_ready.2 $
     -- `read_checked`
     let R = triple_of 𝓛 (r.signature T W I Gh D Sh Ds Wh Dw Ch Dc Ih Di Dt De P) (r.spec T W I Gh D Sh Ds Wh Dw Ch Dc Ih Di Dt De P 𝓛 𝓜.mem 𝓡.returns) in
