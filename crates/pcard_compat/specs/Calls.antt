@@ -48,7 +48,7 @@ pub record IsMisusedCall (words : Words) (old new told now_told : Option (List �
 abbrev pub IsFirstLeft : (List ℕ → List ℕ → Type 0) → List ℕ → List ℕ → List ℕ → Type 0
 IsFirstLeft gives old_word new_word word = (word ≡ old_word) ⊎ (((schema : Schema) × IsTypeOf gives old_word schema) × (word ≡ new_word))
 
--- The first of the two words that stands for no type is reported so.
+-- If one of the two arguments stands for no type, the first such argument is reported.
 pub record IsUntypedCall (gives : List ℕ → List ℕ → Type 0) (lacks : List ℕ → Type 0) (words : Words) (old new told now_told : Option (List ℕ)) (status : ℕ) : Type 0 where
   pub options : Options
   pub old_word : List ℕ

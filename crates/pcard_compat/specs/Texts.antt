@@ -75,7 +75,7 @@ IsLine d line = (what : List ℕ) × (line ≡ place_name (string_bytes d.path) 
 abbrev pub Shows : Option (List ℕ) → List ℕ → Type 0
 Shows known shown = IfSome known (λ it. shown ≡ it)
 
--- The last bytes, so many, or all if there are fewer.
+-- The last `left` bytes, or all if there are fewer.
 abbrev pub bytes_after : List ℕ → ℕ → List ℕ
 bytes_after bytes left = drop (length bytes - left) bytes
 

@@ -14,8 +14,8 @@ use Rattle.pcard_explain.specs.declared.rows.Trailer.{Trailer as TrailerHere}
 
 -- ---- what is said
 
--- What a row says its bytes are: the checksum with this name; those after the value; the code byte of a group; the zero that ends a frame;
--- those after the frame. A code byte says whether a zero of the data follows its group.
+-- What a row says of its bytes. They are a checksum with a name, the bytes after the value, a group's code byte, a frame's last zero, or
+-- the bytes after the frame. A code byte says whether a zero of the data follows its group.
 pub data Note : Type 0 where
   checksum : List ℕ → Note
   after : Note
@@ -108,7 +108,8 @@ rest_notes (Some t) at bytes =
 
 -- ---- frames
 
--- The data has a zero after the group of the code c, which n bytes of the frame follow: another group follows, and this one isn't full.
+-- The data has a zero after the group of the code c: another group follows, and this one isn't full. n is the number of the frame's bytes
+-- after the group.
 abbrev pub has_zero : ℕ → ℕ → Bool
 has_zero c n = nat_lt c 255 && nat_lt (c - 1) n
 

@@ -41,7 +41,7 @@ IsSplit lines value after =
     ((line : Line) × (line.kind ≡ AfterValue) × (lines ≡ value ++ line ∷ []) × (after ≡ line.bytes.now))
     ⊎ (((front : List Line) (line : Line) → lines ≡ front ++ line ∷ [] → line.kind ≢ AfterValue) × (value ≡ lines) × (after ≡ []))
 
--- The rows of lines are printed: those of the value, that of the checksum, if there is a trailer, and that of the bytes after it.
+-- The rows of lines are printed: those of the value, that of the checksum if there is a trailer, and that of the remaining bytes.
 pub record PrintsRows (notation : Notation) (all : Bool) (trailer : Option Trailer) (lines : List Line) (old new : Option (List ℕ)) : Type 0 where
   pub value : List Line
   pub after : List ℕ

@@ -102,7 +102,7 @@ after_none s longest new held limit empty skipping start count = record {
 
 module _ (s : Format) (longest : ℕ) (given : List ℕ) (before after : Stream) (first old new : Option (List ℕ)) (was : IsAfter s longest given before first old)
     (limit : after.longest ≡ before.longest) where
-  -- The lines of the frames, without one of the rest.
+  -- The lines of the frames, without a line of the bytes after the last frame.
   frames_printed : before.skipping ≡ false → PrintsLinesOf s 0 was.lines.answered first old
   frames_printed off = lines_followed s 0 was.lines.answered first was.lines.mid old was.lines.frames (was.lines.last.fits (was.held off).1)
 

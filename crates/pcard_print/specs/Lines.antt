@@ -49,7 +49,7 @@ reason_text NoCobs = codes "no COBS frame"
 reason_text NoZero = codes "no zero ends the frame"
 reason_text Overfull = codes "overfull"
 
--- The offset that is printed: n, unless it is beyond 64 bits.
+-- The offset that is printed: n, or the greatest number of 64 bits if n is greater.
 abbrev pub offset : ℕ → ℕ
 offset n = min n (2 ^ 64 - 1)
 
@@ -131,7 +131,7 @@ abbrev pub bytes_member : List ℕ → List ℕ → List ℕ
 bytes_member name [] = []
 bytes_member name (b ∷ bytes) = hex_member name (b ∷ bytes)
 
--- The line of a value's JSON: the offset at which the value begins, the JSON, the bytes of the data after it, and those after the frame.
+-- The line of a value's JSON: the offset of the value, the JSON, the bytes of the data after it, and the bytes after the frame.
 abbrev pub value_json : ℕ → List ℕ → List ℕ → List ℕ → List ℕ
 value_json at text rest after =
     (codes "{\"at\":" ++ (decimal at ++ (codes ",\"value\":" ++ text)))
@@ -167,7 +167,7 @@ PrintsFirst Json false schema v rest after old new = PrintsJson schema 0 v after
 
 -- ---- failures
 
--- The failures of printing the line of a refusal. But for one of the output nothing was printed.
+-- The failures of printing the line of a refusal. but for one of the output nothing was printed.
 abbrev pub RefusalFails : Notation → Option (List ℕ) → Option (List ℕ) → PrintError → Type 0
 RefusalFails notation old new Output = ⊤
 RefusalFails notation old new OutOfMemory = (notation ≡ Json) × (new ≡ old)
