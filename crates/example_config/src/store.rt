@@ -27,7 +27,7 @@ pub fn save<W: Write + Drop>(file: W, config: &Config) -> Result<W>
     to_io(config, file)
 }
 
-/// Reads the configuration at the front of a file. A text needs as many bytes of `scratch` as it
+/// Reads the configuration at the start of a file. A text needs as many bytes of `scratch` as it
 /// has while it is read.
 ///
 /// # Errors

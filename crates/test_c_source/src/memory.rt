@@ -1,4 +1,4 @@
-//! Slices, arrays behind references, tables, and vectors of bytes.
+//! Slices, arrays after references, tables, and vectors of bytes.
 
 ghost use Rattle.std.specs.Prelude.{◌≤◌, length};
 
@@ -57,7 +57,7 @@ fn turn(row: &mut [u8; 8]) {
     }
 }
 
-/// Turns a number's bytes round, behind a reference to an array, and returns the number.
+/// Turns a number's bytes round, after a reference to an array, and returns the number.
 #[unsafe(no_mangle)]
 pub extern "C" fn turned(n: u64) -> u64 {
     let mut row = n.to_le_bytes();

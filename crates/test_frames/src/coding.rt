@@ -82,7 +82,7 @@ fn made(rt: &(impl Abort + AllocGlobal), content: &[u8]) -> Vec<u8> {
     frame
 }
 
-/// Takes a run that is as long as possible from the front of the data, and adds it to the frame.
+/// Takes a run that is as long as possible from the start of the data, and adds it to the frame.
 /// Then pushes the next byte, if there is one. Returns what is left of the data.
 fn push_run<'a>(
     rt: &impl Abort,
@@ -285,7 +285,7 @@ fn what_is_no_frame_is_not_decoded(rt: HostRuntime) {
     }
 }
 
-/// Decodes the frame at the front of the bytes, which may succeed or fail. Asserts that a frame
+/// Decodes the frame at the start of the bytes, which may succeed or fail. Asserts that a frame
 /// ends at the first zero, and that each byte from there on stays as it was.
 fn survives(rt: &(impl Abort + AllocGlobal), before: &[u8]) {
     let mut after = joined(rt, &[before]);

@@ -65,8 +65,8 @@ fn a_slice_gives_no_bytes_at_the_end(rt: HostRuntime) {
     assert_gives_none_at_the_end(&rt, &[7]);
 }
 
-/// Moves the first byte of `bytes` into the front of `buf`, and returns the number of bytes moved:
-/// 0 if either is empty.
+/// Moves the first byte of `bytes` into the first bytes of `buf`, and returns the number of bytes
+/// moved: 0 if either is empty.
 fn move_first(bytes: &mut &[u8], buf: &mut [u8]) -> usize
     ensures moved { bytes.old.now ≡ take result buf.new ++ bytes.new.now }
     ensures fits { result ≤ length buf.new }

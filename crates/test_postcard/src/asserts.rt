@@ -47,7 +47,7 @@ pub fn assert_read<'a, T: Serialize + Deserialize<'a> + PartialEq + Debug>(
     }
 }
 
-/// Returns the value at the front of the bytes, and the bytes after it. A function without clauses,
+/// Returns the value at the start of the bytes, and the bytes after it. A function without clauses,
 /// since what the contract of a call says of a type is proved anew wherever it is called.
 pub fn taken<'a, T: Deserialize<'a>>(
     rt: &(impl Abort + AllocGlobal),

@@ -11,7 +11,7 @@ use std::process::Abort;
 
 const END: Error = Error::DeserializeUnexpectedEnd;
 
-/// The number 0x0102030405060708090A0B0C0D0E0F10, the highest byte first. Its fronts are the
+/// The number 0x0102030405060708090A0B0C0D0E0F10, the highest byte first. Its prefixes are the
 /// numbers of the other widths.
 const COUNT: [u8; 16] = [1, 2, 3, 4, 5, 6, 7, 8, 9, 10, 11, 12, 13, 14, 15, 16];
 

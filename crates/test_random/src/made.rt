@@ -1,4 +1,4 @@
-//! The types, and how a value of each is made of its parts, random ones or such as bytes spell.
+//! The types, and how a value of each is made of its parts, random ones or such as bytes encode.
 
 use crate::choices::Choices;
 use arrayvec::{ArrayString, ArrayVec};

@@ -13,7 +13,7 @@ pub(crate) struct Plain<'a> {
 }
 
 impl<'a> Plain<'a> {
-    /// Returns a decoder of values at the front of these bytes.
+    /// Returns a decoder of values at the start of these bytes.
     pub(crate) fn new(alloc: Global, bytes: &'a [u8]) -> Plain<'a> {
         Plain { left: bytes, alloc }
     }

@@ -66,8 +66,8 @@ pub(crate) fn frame_changes(rt: &(impl Abort + AllocGlobal), bytes: &[u8]) -> Ve
     changes(rt, &frame)
 }
 
-/// Returns whether a call wrote `want` into the front of a buffer of `room` bytes, or failed because
-/// there is no room for it.
+/// Returns whether a call wrote `want` into the first bytes of a buffer of `room` bytes, or failed
+/// because there is no room for it.
 fn is_room(answer: postcard::Result<&mut [u8]>, room: usize, want: &[u8]) -> bool {
     match answer {
         Ok(front) => &*front == want,

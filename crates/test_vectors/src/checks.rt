@@ -122,7 +122,7 @@ fn written<T: Serialize>(alloc: Global, value: &T, want: &[u8]) -> Outcome {
     }
 }
 
-/// Requires that each proper front of the value's bytes is refused.
+/// Requires that each proper prefix of the value's bytes is refused.
 fn ends<'a, T: Deserialize<'a> + Debug>(alloc: Global, bytes: &'a [u8]) -> Outcome {
     for count in 0..bytes.len() {
         let (front, _) = bytes.split_at(count);

@@ -1,5 +1,5 @@
 //! A program that checks the library against a table of rows, which it reads from its standard
-//! input. Each row has a type, bytes, and the value that they spell or the error with which they
+//! input. Each row has a type, bytes, and the value that they encode or the error with which they
 //! are refused. The comments at the head of the table say how a row is written.
 //!
 //! It prints a line for each row that is wrong and for each line that isn't a row, and then the

@@ -48,7 +48,7 @@ fn bytes_of(alloc: Global, text: &str) -> Result<Vec<u8>, RowError> {
     }
 }
 
-/// Returns the mark of this spelling.
+/// Returns the mark of this accepted encoding.
 fn mark_of(word: &str) -> Result<Mark, RowError> {
     match word {
         "=" => Ok(Mark::Same),

@@ -32,7 +32,7 @@ impl<const N: usize> Bounded<N> {
 impl<const N: usize> Write for Bounded<N> {
     ghost contents = { λ s. Some s.held.items };
 
-    /// Takes the front of `buf` that there is room for, and returns the number of its bytes.
+    /// Takes the prefix of `buf` that there is room for, and returns the number of its bytes.
     fn write(&mut self, buf: &[u8]) -> io::Result<usize>
         ensures bound { WritesAtMost result buf.now }
         ensures bytes { WriteAppends (Some self.old.held.items) (Some self.new.held.items)
