@@ -76,7 +76,8 @@ fn add_to(n: &mut u64, more: u64) -> u64 {
     before >> 1
 }
 
-/// Returns what calls that change a number returned, joined with what it was between them.
+/// Calls functions that change a number. Returns their results, joined with the number between the
+/// calls.
 #[unsafe(no_mangle)]
 pub extern "C" fn changed(a: u64, b: u64) -> u64 {
     let mut n = a;

@@ -10,7 +10,7 @@ use std::alloc::AllocGlobal;
 use std::process::Abort;
 use test_support::types::RefStruct;
 
-/// Bytes, each beside the bytes after the frame at their front, which holds the byte 7.
+/// Bytes that begin with a frame of the byte 7, each beside the bytes after that frame.
 const BYTES: [(&[u8], &[u8]); 4] = [
     (&[0x02, 0x07], &[]),
     (&[0x03, 0x07, 0x08, 0x00], &[]),
@@ -21,7 +21,8 @@ const BYTES: [(&[u8], &[u8]); 4] = [
 /// Bytes that aren't a frame.
 const NO_FRAMES: [&[u8]; 3] = [&[], &[0x00], &[0x05, 0x01, 0x00]];
 
-/// Asserts that the byte 7 is read from the frame at the start of these bytes, which leaves these.
+/// Asserts that the byte 7 is read from the frame at the start of `bytes`, and that the bytes
+/// `left` remain.
 fn is_read(rt: &(impl Abort + AllocGlobal), bytes: &[u8], left: &[u8]) {
     let mut buffer = joined(rt, &[bytes]);
     let front = take_from_bytes_cobs::<u8>(rt.alloc(), &mut buffer);

@@ -10,8 +10,8 @@ use arrayvec::ArrayVec;
 use std::io;
 use std::io::{ErrorKind, Write};
 
-/// A writer with room for `N` bytes. Each write takes as many bytes as there is room for. Once it
-/// is full, a write takes none, so that `write_all` fails.
+/// A writer with room for `N` bytes. Each write takes the bytes that there is room for. Once the
+/// writer is full, a write takes none, so that `write_all` fails.
 #[derive(Drop)]
 pub struct Bounded<const N: usize> {
     /// The bytes that were written.
