@@ -167,7 +167,7 @@ PrintsFirst Json false schema v rest after old new = PrintsJson schema 0 v after
 
 -- ---- failures
 
--- The failures of printing the line of a refusal. but for one of the output nothing was printed.
+-- The failures of printing the line of a refusal. If the output didn't fail, nothing was printed.
 abbrev pub RefusalFails : Notation → Option (List ℕ) → Option (List ℕ) → PrintError → Type 0
 RefusalFails notation old new Output = ⊤
 RefusalFails notation old new OutOfMemory = (notation ≡ Json) × (new ≡ old)

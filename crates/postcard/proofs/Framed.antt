@@ -34,7 +34,7 @@ data_room {free = free} s xs holds keeps few room =
       few = few;
     }
 
--- The prefix of a buffer that a made frame fills, as many bytes as counted, decodes to the data.
+-- If a buffer begins with a made frame, its first `count` bytes, the length of the frame, decode to the data.
 pub front_decodes : (count : ℕ) (all old d : List ℕ) → count ≡ length (made d)
     → Fills (made d) old all → DecodesTo (take count all) d
 front_decodes count all old d counts fills =

@@ -1,4 +1,4 @@
--- What a reader has left after a prefix.
+-- The bytes that a reader has left after a prefix was read.
 use Rattle.std.proofs.Common.{◌≡◌, List, ℕ, ◌++◌, Option, Some, None, refl, subst}
 use Rattle.std.specs.Io.KnownBytes.{Consumes}
 

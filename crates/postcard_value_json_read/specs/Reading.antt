@@ -125,7 +125,7 @@ HasMembers n d = ⊥
 abbrev pub IsMember : List ℕ → Reading → Reading
 IsMember n R t d = (e : Data) × (get n d ≡ Some e) × R t e
 
--- A struct: an object with as many members as there are fields.
+-- A struct: an object with one member for each field.
 abbrev pub IsStructJson : ℕ → (Trees → Data → Type 0) → Reading
 IsStructJson n P (nodes.Group ts) d = HasMembers n d × P ts d
 IsStructJson n P t d = ⊥

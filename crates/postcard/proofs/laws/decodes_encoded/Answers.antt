@@ -1,4 +1,4 @@
--- The tree is well formed, so its canonical encoding encodes it, and no other prefix of those bytes encodes a tree that the type reads.
+-- The tree is well formed, so its canonical encoding is an accepted one. No other prefix of those bytes encodes a tree of the type.
 use Rattle.std.proofs.Common.{sym, subst}
 use Rattle.postcard_wire.specs.Tree.{Tree}
 use Rattle.postcard_wire.proofs.Shortest.{Spells-canonical}
