@@ -31,9 +31,11 @@ abbrev pub safe_status : Bool → ℕ
 safe_status true = 0
 safe_status false = 1
 
+-- The text of the outcome is printed, and the exit status says whether it is safe. Status 3 says that it can't be printed.
 abbrev pub PrintsOutcome : Outcome → Option (List ℕ) → Option (List ℕ) → ℕ → Type 0
 PrintsOutcome o old new status = (status ≡ 3) ⊎ ((status ≡ safe_status o.is_safe) × Appends old new (string_bytes o.text))
 
+-- The outcome or the line of its failure is printed, with the exit status.
 abbrev pub EndsCall : Result Outcome PrintError → Option (List ℕ) → Option (List ℕ) → ℕ → Type 0
 EndsCall (Ok outcome) old new status = PrintsOutcome outcome old new status
 EndsCall (Err error) old new status = AnswersFailure (failure_of_print error) old new status

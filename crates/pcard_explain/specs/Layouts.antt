@@ -31,6 +31,7 @@ rows_layout notation all lines = record { notation = notation; offset = offset_s
 abbrev pub spaced_byte : ℕ → List ℕ
 spaced_byte b = encode_lower (b ∷ []) ++ 32 ∷ []
 
+-- Bytes as digits, with a blank after each byte.
 abbrev pub spaced : List ℕ → List ℕ
 spaced bytes = flat_map spaced_byte bytes
 
@@ -64,5 +65,6 @@ IsRow layout at depth bytes text row =
     (shown : List ℕ) × IsCut layout text shown × (row ≡ head_text layout at depth bytes ++ (shown ++ 10 ∷ []))
     × (layout.all ≡ false → length row ≤ 81)
 
+-- A row is printed: its head, and its text, which may be cut.
 abbrev pub PrintsRow : Layout → ℕ → ℕ → List ℕ → List ℕ → Option (List ℕ) → Option (List ℕ) → Type 0
 PrintsRow layout at depth bytes text old new = (row : List ℕ) × IsRow layout at depth bytes text row × Appends old new row

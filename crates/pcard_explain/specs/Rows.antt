@@ -19,6 +19,7 @@ abbrev pub PrintsObject : ℕ → List ℕ → Line → Option (List ℕ) → Op
 PrintsObject at path line old new =
     (members : List ℕ) × IsMembers line.kind members × Appends old new (object_text (codes "at") at line.bytes.now (field_member path) members)
 
+-- The row of a line with a path is printed, as text or as JSON.
 abbrev pub PrintsLineIn : Notation → Layout → ℕ → List ℕ → Line → Option (List ℕ) → Option (List ℕ) → Type 0
 PrintsLineIn Text layout at path line old new =
     IfSome (told_text line) (λ text. PrintsRow layout at line.depth line.bytes.now text old new)

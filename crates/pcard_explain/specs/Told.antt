@@ -56,6 +56,7 @@ kind_text (MoreElements n) = Some (codes "and " ++ (decimal n ++ codes " more"))
 kind_text (Refused e) = Some (codes "expected " ++ expected_text e)
 kind_text AfterValue = Some (codes "after the value")
 
+-- The text of a line: the name of its part, a separator, and its value.
 abbrev pub told_text : Line → Option (List ℕ)
 told_text line = Some (title_text line.label ++ separator_text line.label line.kind) ++? kind_text line.kind
 

@@ -93,6 +93,7 @@ whole reason bytes = record { offset = 0; reason = reason; path = []; shown = So
 abbrev pub no_cobs : List ℕ → Why
 no_cobs frame = whole NoCobs frame
 
+-- Why bytes without a zero are refused: no zero ends the frame.
 abbrev pub no_zero : List ℕ → Why
 no_zero bytes = whole NoZeroEnds bytes
 
@@ -110,15 +111,18 @@ abbrev pub IsNextData : Format → List ℕ → Answer → List ℕ → Type 0
 IsNextData format bytes (value v rest) after = (rest ≡ []) × ReadsData format bytes v after
 IsNextData format bytes (refused w) after = (after ≡ bytes) × IsBadData format bytes w
 
+-- The answer to the first frame of the bytes, and the bytes after it.
 abbrev pub IsNextFrame : Format → List ℕ → Answer → List ℕ → Type 0
 IsNextFrame format bytes answer after =
     ((frame : List ℕ) × EndsFrame bytes frame after × IsFrameAnswer format frame answer)
     ⊎ (NoZero bytes × (after ≡ bytes) × (answer ≡ refused (no_zero bytes)))
 
+-- The answer to the first frame or, without frames, to the first message.
 abbrev pub IsNextIn : Bool → Format → List ℕ → Answer → List ℕ → Type 0
 IsNextIn true format bytes answer after = IsNextFrame format bytes answer after
 IsNextIn false format bytes answer after = IsNextData format bytes answer after
 
+-- The answer to the first message or frame of the bytes in this format, and the bytes after it.
 abbrev pub IsNext : Format → List ℕ → Answer → List ℕ → Type 0
 IsNext format bytes answer after = IsNextIn format.framed format bytes answer after
 

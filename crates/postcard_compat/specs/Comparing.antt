@@ -36,11 +36,12 @@ abbrev pub IsWhole : Reading → Type 0
 IsWhole (Refused error offset path) = ⊥
 IsWhole (Read value left) = left ≡ 0
 
+-- The reading is a refusal.
 abbrev pub IsRefused : Reading → Type 0
 IsRefused (Refused error offset path) = Unit {0}
 IsRefused (Read value left) = ⊥
 
--- What the example shows.
+-- The meaning of each outcome: what the example shows of the two types.
 abbrev pub Shows : MessageType → MessageType → Example → Outcome → Type 0
 Shows old new e outcomes.Other = ReadsAsOther old new e
 Shows old new e outcomes.Whole = IsWhole e.reading

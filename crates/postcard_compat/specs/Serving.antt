@@ -18,6 +18,7 @@ RowServes new says old old_says = (ts : Trees) → old ts → (ss : Trees) × ne
 abbrev pub Serves : MessageType → MessageType → Type 0
 Serves new old = SetServes (reads new) (said new) (reads old) (said old)
 
+-- The new parts in a row serve the old parts in a row.
 abbrev pub AllServe : MessageTypes → MessageTypes → Type 0
 AllServe news olds = RowServes (reads_all news) (said_all news) (reads_all olds) (said_all olds)
 
@@ -39,5 +40,6 @@ VariantsServe news olds = (i : ℕ) → SetServes (reads_at news i) (said_at new
 abbrev pub ServesFront : MessageType → MessageType → Type 0
 ServesFront new old = (t : Tree) → reads old t → (s : Tree) × (more : List Word) × reads new s × (said old t ≡ said new s ++ more) × ((p : List ℕ) → Spells t p → (x y : List ℕ) × Spells s x × (p ≡ x ++ y))
 
+-- The new parts in a row serve the first of the old parts in a row.
 abbrev pub AllServeFront : MessageTypes → MessageTypes → Type 0
 AllServeFront news olds = (ts : Trees) → reads_all olds ts → (ss : Trees) × (more : List Word) × reads_all news ss × (said_all olds ts ≡ said_all news ss ++ more) × ((p : List ℕ) → SpellsAll ts p → (x y : List ℕ) × SpellsAll ss x × (p ≡ x ++ y))

@@ -24,6 +24,7 @@ IsLeast {X} measure (Some n) has = HasLeast measure n has
 abbrev pub IsLeastSize : Option ℕ → (Tree → Type 0) → Type 0
 IsLeastSize = IsLeast tree_len
 
+-- The size is the least of a set of rows of trees.
 abbrev pub IsLeastOfRow : Option ℕ → (Trees → Type 0) → Type 0
 IsLeastOfRow = IsLeast trees_len
 

@@ -39,10 +39,12 @@ IsOfTwo p P Q s text = (x : Schema) × (y : Schema) × MayPair p (type_of x) (ty
 abbrev pub IsSeqRest : (Schema → List ℕ → Type 0) → Schema → List ℕ → Type 0
 IsSeqRest T s text = (b : Box Schema Global) × (s ≡ Seq b) × (has_bytes (type_of b.value) ≡ true) × Then (T b.value) (IsSign 93) text
 
+-- What follows the `[` of an array: an element type with bytes, `;`, a count and `]`.
 abbrev pub IsArrayRest : (Schema → List ℕ → Type 0) → Schema → List ℕ → Type 0
 IsArrayRest T s text =
     (b : Box Schema Global) × (n : ℕ) × (s ≡ Array b n) × (has_bytes (type_of b.value) ≡ true) × Then (T b.value) (Then (IsSign 59) (Then (IsCount n) (IsSign 93))) text
 
+-- What follows a `[`: the rest of a list or of an array.
 abbrev pub IsListRest : (Schema → List ℕ → Type 0) → Schema → List ℕ → Type 0
 IsListRest T s text = IsSeqRest T s text ⊎ IsArrayRest T s text
 

@@ -25,17 +25,21 @@ of_digits radix (b ∷ bs) all = by (is_underscore b) refl all (of_digits radix 
         let digit : is_digit b radix ≡ true = grind (arith, nat_tests, low) in
         pass_cons (is_of_digits radix) b bs (rw e digit) (rest h.1)
 
+-- The radix 0 has no digits.
 no_digits : (ds : List ℕ) → IsNumeral 0 ds → ⊥
 no_digits [] (some, all) = omega (arith, some)
 no_digits (d ∷ ds) (some, all) = omega (arith, all.0)
 
+-- A radix with a number is at least 2.
 radix_or : (radix : ℕ) (ds : List ℕ) → (radix ≡ 0) ⊎ (2 ≤ radix) → IsNumeral radix ds → 2 ≤ radix
 radix_or radix ds (inl e) numeral = absurd (no_digits ds (subst (λ r. IsNumeral r ds) e numeral))
 radix_or radix ds (inr low) numeral = low
 
+-- A letter stands for no radix, or for one of at least 2.
 radixes : (letter : ℕ) → (radix_of letter ≡ 0) ⊎ (2 ≤ radix_of letter)
 radixes letter = grind (arith, nat_tests)
 
+-- A letter stands for a radix of at most 16.
 most : (letter : ℕ) → radix_of letter ≤ 16
 most letter = grind (arith, nat_tests)
 
@@ -72,6 +76,7 @@ one_literal n m text (inl a) (inr (letter, digits, b, e)) =
 digit_of_word : (radix b : ℕ) → radix ≤ 16 → is_of_digits radix b ≡ true → is_of_word b ≡ true
 digit_of_word radix b high h = grind (arith, nat_tests, high, h)
 
+-- The digits of a literal are bytes of a word.
 digits_of_word : (radix : ℕ) (bs : List ℕ) → radix ≤ 16 → AllDigits radix (without_underscores bs) → AllPass is_of_word bs
 digits_of_word radix bs high all = λ k d inside. digit_of_word radix (get_or bs k d) high (of_digits radix bs all k d inside)
 

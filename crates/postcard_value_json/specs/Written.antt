@@ -31,9 +31,11 @@ Writer = Tree → Option Data
 abbrev pub unsigned_json : ℕ → Data
 unsigned_json n = if nat_lt n 9007199254740992 then number (unsigned n) else string (decimal n)
 
+-- Whether the magnitude of a number is below 2^53.
 abbrev pub is_small : ℤ → Bool
 is_small z = int_lt (negsuc 9007199254740991) z && int_lt z (pos 9007199254740992)
 
+-- The JSON of a signed number: a number if it is small, and else a string.
 abbrev pub signed_json : ℤ → Data
 signed_json z = if is_small z then number (of_integer z) else string (signed_decimal z)
 
@@ -53,6 +55,7 @@ varint_json false width (Num w n) = if w == width then Some (unsigned_json n) el
 varint_json true width (Int w z) = if w == width then Some (signed_json z) else None
 varint_json signed width t = None
 
+-- The JSON of a tree of a type of integers.
 abbrev pub integer_json : Integer → Writer
 integer_json U8 = byte_json false
 integer_json I8 = byte_json true
@@ -63,10 +66,12 @@ abbrev pub infinity : Float → ℕ
 infinity F32 = 0x7f80_0000
 infinity F64 = 0x7ff0_0000_0000_0000
 
+-- The bits of negative infinity.
 abbrev pub negative_infinity : Float → ℕ
 negative_infinity F32 = 0xff80_0000
 negative_infinity F64 = 0xfff0_0000_0000_0000
 
+-- The bits of `f32::NAN` and `f64::NAN`.
 abbrev pub usual_nan : Float → ℕ
 usual_nan F32 = 0x7fc0_0000
 usual_nan F64 = 0x7ff8_0000_0000_0000
@@ -125,10 +130,12 @@ row ds = values.array (items_of ds)
 abbrev pub items_json : Writer → Trees → Option Data
 items_json p ts = option_map row (all_json p ts)
 
+-- The JSON of a list: the array of its elements.
 abbrev pub list_json : Writer → Writer
 list_json p (nodes.Seq ts) = items_json p ts
 list_json p t = None
 
+-- The JSON of an array: the array of its elements.
 abbrev pub array_json : Writer → Writer
 array_json p (nodes.Group ts) = items_json p ts
 array_json p t = None
@@ -141,6 +148,7 @@ parts_row (d ∷ ds) = row (d ∷ ds)
 abbrev pub parts_json : List Writer → Trees → Option Data
 parts_json ps ts = option_map parts_row (each_json ps ts)
 
+-- The JSON of a tuple: the array of its parts, and `null` for the unit.
 abbrev pub tuple_json : List Writer → Writer
 tuple_json ps (nodes.Group ts) = parts_json ps ts
 tuple_json ps t = None
@@ -168,6 +176,7 @@ members_json fs ts ms = None
 abbrev pub fields_json : List FieldWriter → Trees → Option Data
 fields_json fs ts = option_map object (members_json fs ts no_members)
 
+-- The JSON of a struct: the object of its fields.
 abbrev pub struct_json : List FieldWriter → Writer
 struct_json fs (nodes.Group ts) = fields_json fs ts
 struct_json fs t = None
@@ -176,6 +185,7 @@ struct_json fs t = None
 abbrev pub variant_json : List ℕ → Layout → Writer → Writer
 variant_json n x p t = if is_unit x then Some (string n) else option_map (alone n) (p t)
 
+-- The JSON of an enum's value, by the variant at its index.
 abbrev pub choice_json : (ℕ → Writer) → Writer
 choice_json p (nodes.Variant i t) = p i t
 choice_json p t = None

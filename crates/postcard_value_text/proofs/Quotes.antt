@@ -77,6 +77,7 @@ pub all_hexadecimal : (bytes text : List ℕ) → AreDigitsOf bytes text → All
 all_hexadecimal [] text none = rw none tt
 all_hexadecimal (b ∷ bs) text (x, y, rest, p, q, is, more, whole) = rw whole (p, (q, all_hexadecimal bs rest more))
 
+-- A byte string has two digits for each byte.
 pub even : (bytes text : List ℕ) → AreDigitsOf bytes text → length text ≡ 2 * length bytes
 even [] text none = ap length none
 even (b ∷ bs) text (x, y, rest, p, q, is, more, whole) =

@@ -54,6 +54,7 @@ abbrev pub RowAfter : List Phrase → List ℕ → Type 0
 RowAfter [] text = text ≡ []
 RowAfter (P ∷ Ps) text = Then (IsSign 44) (Then P (RowAfter Ps)) text
 
+-- The text is phrases in a row, with a `,` between two of them.
 abbrev pub Row : List Phrase → List ℕ → Type 0
 Row [] text = text ≡ []
 Row (P ∷ Ps) text = Then P (RowAfter Ps) text
@@ -68,11 +69,11 @@ abbrev pub Unless : Bool → Phrase → List ℕ → Type 0
 Unless true P text = text ≡ []
 Unless false P text = P text
 
--- Phrases with `,` between two of them, and a closing bracket; and the same after an opening bracket. A `,` may follow the last
--- phrase.
+-- The text is phrases in a row and a closing bracket. A `,` may follow the last phrase.
 abbrev pub AreClosed : ℕ → List Phrase → List ℕ → Type 0
 AreClosed closing Ps text = Then (Row Ps) (Then (Unless (are_none Ps) (IsMaybe 44)) (IsSign closing)) text
 
+-- The text is an opening bracket, and then phrases in a row and a closing bracket.
 abbrev pub AreEnclosed : ℕ → ℕ → List Phrase → List ℕ → Type 0
 AreEnclosed opening closing Ps text = Then (IsSign opening) (AreClosed closing Ps) text
 
@@ -92,6 +93,7 @@ abbrev pub SpellsList : ℕ → ℕ → Speller → Tree → List ℕ → Type 0
 SpellsList opening closing S (nodes.Seq ts) text = AreEnclosed opening closing (phrases S ts) text
 SpellsList opening closing S t text = ⊥
 
+-- The text denotes an array, as its elements in `[` and `]`.
 abbrev pub SpellsArray : Speller → Tree → List ℕ → Type 0
 SpellsArray S (nodes.Group ts) text = AreEnclosed 91 93 (phrases S ts) text
 SpellsArray S t text = ⊥
@@ -121,6 +123,7 @@ SpellsContent x S t text = Then (IsSign 40) (Then (S t) (IsSign 41)) text
 abbrev pub SpellsVariant : List ℕ → Layout → Speller → Tree → List ℕ → Type 0
 SpellsVariant name x S t text = Then (IsWord name) (SpellsContent x S t) text
 
+-- The text denotes a value of an enum, by the variant at its index.
 abbrev pub SpellsChoice : (ℕ → Speller) → Tree → List ℕ → Type 0
 SpellsChoice S (nodes.Variant i t) text = S i t text
 SpellsChoice S t text = ⊥

@@ -23,7 +23,7 @@ fn turn_round(two: &mut Two) {
     };
 }
 
-/// Returns a struct's fields after each was assigned the other, by a local and by a reference.
+/// Returns the fields of a struct after they were swapped, by a local and by a reference.
 #[unsafe(no_mangle)]
 pub extern "C" fn crossed(a: u64, b: u64) -> u64 {
     let mut two = Two { left: a, right: b };

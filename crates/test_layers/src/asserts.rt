@@ -4,6 +4,7 @@
 use std::fmt::Debug;
 use std::process::Abort;
 
+// Asserts that the two are equal.
 pub(crate) fn same<T: PartialEq + Debug + Drop>(rt: &impl Abort, value: T, want: T) {
     assert_eq!(rt; value, want);
 }
