@@ -29,7 +29,7 @@ fn reply_to<'a>(request: Result<Request<'a>>) -> Reply<'a>
 }
 
 /// Decodes the request in a frame, encodes the reply as a frame into `buffer`, and returns that
-/// frame. The reply to a frame without a request is `Refused(NotUnderstood)`. The request is
+/// frame. If the frame has no request, the reply is `Refused(NotUnderstood)`. The request is
 /// decoded in place, which changes the bytes of its frame.
 ///
 /// # Errors

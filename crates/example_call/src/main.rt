@@ -21,7 +21,8 @@ use postcard::{Shaped, from_bytes_cobs, to_slice_cobs};
 const BUFFER: usize = 32;
 
 /// Passes a frame to the device, and returns the reply, which borrows from `buffer`. Prints both
-/// frames and the reply. To the frame of a request, the reply is the one of this request.
+/// frames and the reply. The contract says: the reply to the frame of a request is the reply to
+/// that request.
 fn exchange<'a>(
     rt: &(impl Print + AllocGlobal),
     frame: &mut [u8],

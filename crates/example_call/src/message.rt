@@ -12,7 +12,7 @@ use postcard::{
 /// A request to a device.
 #[derive(Debug, Drop, PartialEq)]
 pub enum Request<'a> {
-    /// Asks whether the device is there.
+    /// Asks whether the device answers.
     Ping,
     /// Asks for the sum of two numbers.
     Add {
@@ -21,7 +21,7 @@ pub enum Request<'a> {
         /// The second number.
         right: u32,
     },
-    /// Asks for the same text again.
+    /// Asks for the same string back.
     Echo(&'a str),
 }
 
@@ -104,7 +104,7 @@ pub enum Reply<'a> {
     Pong,
     /// The reply to `Add`: the sum of the two numbers.
     Sum(u32),
-    /// The reply to `Echo`: the text of the request.
+    /// The reply to `Echo`: the string of the request.
     Text(&'a str),
     /// The request is refused, for this reason.
     Refused(Refusal),

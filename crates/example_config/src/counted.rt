@@ -10,8 +10,8 @@ use postcard::{Error, Result};
 /// Counts the bytes that are written to another flavor. Its output is that of the other flavor, and
 /// the count.
 ///
-/// It fails with `SerializeBufferFull` if the count would pass `usize::MAX`, and as the other flavor
-/// does. That may then have taken fewer bytes than were counted.
+/// It fails with `SerializeBufferFull` if the count would pass `usize::MAX`, and as the other
+/// flavor does. After a failure the other flavor may have taken fewer bytes than were counted.
 #[derive(Drop)]
 pub struct Counted<F> {
     /// The flavor to which all bytes are written.

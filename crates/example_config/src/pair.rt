@@ -44,10 +44,10 @@ impl<T: DeserializeOwned> DeserializeOwned for Pair<T> {
     }
 }
 
-/// A text with its values.
+/// A string with values.
 #[derive(Debug, Drop)]
 pub struct Label<'a> {
-    /// The text, borrowed from the message.
+    /// The string, borrowed from the message.
     pub text: &'a str,
     /// The values.
     pub values: Vec<u16>,

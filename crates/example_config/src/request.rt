@@ -15,11 +15,11 @@ use std::alloc::Global;
 /// A request for a setting.
 #[derive(Debug, Drop)]
 pub enum Request<T> {
-    /// Tell it.
+    /// Return the setting.
     Get,
-    /// Take this one.
+    /// Set it to this value.
     Set(T),
-    /// Take none outside these two.
+    /// Keep it between these two values.
     Limit(T, T),
     /// Change it by a number of steps.
     Step(i16),

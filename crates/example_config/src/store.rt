@@ -27,14 +27,14 @@ pub fn save<W: Write + Drop>(file: W, config: &Config) -> Result<W>
     to_io(config, file)
 }
 
-/// Reads the configuration at the front of a file. A text needs as many bytes of `scratch` as it
-/// has while it is read.
+/// Reads the configuration at the start of a file. While a string is read, it needs its length in
+/// bytes of `scratch`.
 ///
 /// # Errors
 ///
-/// Fails as `from_bytes` does if the file begins with no configuration, with
-/// `DeserializeUnexpectedEnd` also if it can't be read, or if `scratch` is too short, and with
-/// `OutOfMemory` if an allocation fails.
+/// Fails as `from_bytes` does if the file begins with no configuration. Fails with
+/// `DeserializeUnexpectedEnd` also if the file can't be read, or if `scratch` is too short. Fails
+/// with `OutOfMemory` if an allocation fails.
 pub fn load<R: Reader>(alloc: Global, file: R, scratch: &mut [u8]) -> Result<Config>
     ensures comes_back { (saved : Config) → ⟦<Config as Shaped>⟧.shape.fits saved → R.steady file
         → Begins (R.remaining file) (canonical (⟦<Config as Shaped>⟧.shape.tree saved))

@@ -45,8 +45,8 @@ pub struct Telemetry {
     pub label: String,
 }
 
-/// The fields, as three tuples of five: the bytes are those of the fields in a row, and short tuples
-/// are proved faster than one of fifteen.
+/// The fields, as three tuples of five. Their bytes are those of the fields in a row. Three short
+/// tuples are proved faster than one of fifteen fields.
 type Parts = (
     (u32, u64, u16, i16, i16),
     (u8, u32, i32, i32, i16),

@@ -63,8 +63,8 @@ pub fn append<W: Write + Drop>(file: W, item: &Record) -> Result<W>
 /// # Errors
 ///
 /// Fails with `DeserializeUnexpectedEnd` if the record is unfinished, if its note is longer than
-/// `scratch`, or if the file can't be read, and as `from_bytes` does if the record is damaged. The
-/// file is then dropped.
+/// `scratch`, or if the file can't be read. Fails as `from_bytes` does if the record is damaged.
+/// The file is then dropped.
 pub fn read<'a, R: Reader + 'a>(
     alloc: Global,
     file: R,

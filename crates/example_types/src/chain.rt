@@ -24,8 +24,8 @@ pub enum Chain {
 }
 
 /// Writes a chain of fewer than `limit` links. Fails with `SerdeSerCustom` if it has `limit` links
-/// or more, and with `SerializeBufferFull` if the flavor refuses bytes; no part is a printed text,
-/// which could fail otherwise. The bytes that the flavor took before stay in it.
+/// or more, and with `SerializeBufferFull` if the flavor refuses bytes. No part is a printed text,
+/// so there is no other error. The bytes that the flavor took before stay in it.
 fn write_links<F: Flavor>(chain: &Chain, limit: u32, serializer: &mut Serializer<F>) -> Result<()>
     ensures wrote { Wrote F.Flavor serializer.old.output
         (canonical ((chain_shape limit).tree chain.now)) ((chain_shape limit).refusal chain.now)
@@ -46,7 +46,8 @@ fn write_links<F: Flavor>(chain: &Chain, limit: u32, serializer: &mut Serializer
 }
 
 /// Reads a chain of fewer than `limit` links. Fails with `SerdeDeCustom` if it has `limit` links or
-/// more, or if a variant's index is neither 0 nor 1, and with `OutOfMemory` if an allocation fails.
+/// more, or if a variant's index is neither 0 nor 1. Fails with `OutOfMemory` if an allocation
+/// fails.
 fn read_links<F: DeFlavor>(limit: u32, alloc: Global, d: &mut Deserializer<'_, F>) -> Result<Chain>
     ensures { Deserializes F.Flavor (chain_shape limit) d.old result d.new }
 {

@@ -2,8 +2,8 @@
 //! `docs/TYPES_REFERENCE.md` show.
 //!
 //! - [`reading`], [`numbers`], [`station`], [`pair`]: structs, which are encoded as the tuple of
-//!   their fields. The first borrows from the message, the second has more than six fields, the
-//!   third a struct as a field, and the last a type parameter.
+//!   their fields. The first borrows from the message, and the second has more than six fields. The
+//!   third has a struct as a field, and the last a type parameter.
 //! - [`event`]: an enum, which is described as its variants in a row.
 //! - [`sample`]: structs with floating-point numbers, one of which has a greatest size, and the other
 //!   a list and a set.

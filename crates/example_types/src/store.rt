@@ -121,8 +121,8 @@ pub fn settings_size() -> Option<usize>
 /// the zero that ends the frame. An accumulator of this size has room for every such frame.
 pub const SETTINGS_FRAME_SIZE: usize = 27;
 
-/// Encodes settings as a frame into the front of a buffer, and returns the number of bytes of the
-/// frame. It never fails, since the buffer is always large enough.
+/// Encodes settings as a frame into the first bytes of a buffer, and returns the number of bytes of
+/// the frame. It never fails, since the buffer is always large enough.
 #[tactic(auto, using(postcard::specs::Lemmas::frame_len))]
 pub fn fill_frame(settings: &Settings, buffer: &mut [u8; SETTINGS_FRAME_SIZE]) -> Result<usize>
     ensures { IsOk result }

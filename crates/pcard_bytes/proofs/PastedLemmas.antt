@@ -17,9 +17,9 @@ use Rattle.pcard_bytes.specs.declared.input.InputError.{InputError}
 use Rattle.pcard_bytes.specs.declared.input.InputError.TheVariants.{BadHex, OutOfMemory}
 use Rattle.pcard_bytes.specs.Hexadecimal.{AreBytesOf, IsWrongAt, IsWord, IsWrongWord, IsLine, IsWrongLine, SpellsBytes, IsWrongHex, digits_of, words_of, column_of, lines_of, is_dump, start_of, is_of_xxd, up_to}
 
--- ---- one text spells one list of bytes, or is wrong
+-- ---- one text denotes one list of bytes, or is wrong
 
--- If a part spells at most one list of bytes, so do parts in a row.
+-- If a part denotes at most one list of bytes, so do parts in a row.
 bytes_one : (Is : List ℕ → List ℕ → Type 0) → ((x a b : List ℕ) → Is x a → Is x b → a ≡ b) → (xs : List (List ℕ)) (a b : List ℕ)
     → AreBytesOf Is xs a → AreBytesOf Is xs b → a ≡ b
 bytes_one Is one [] a b h k = h ∙ sym k
@@ -28,7 +28,7 @@ bytes_one Is one (x ∷ xs) a b (f, r, is, more, joins) (g, s, other, others, jo
     let rest : r ≡ s = bytes_one Is one xs r s more others in
     cc
 
--- If no part that is wrong spells bytes, parts in a row don't either, if one is wrong.
+-- If a wrong part denotes no bytes, parts in a row denote none if one of them is wrong.
 bytes_none : (Is : List ℕ → List ℕ → Type 0) (IsWrong : List ℕ → ℕ → Type 0) → ((x a : List ℕ) (n : ℕ) → IsWrong x n → Is x a → ⊥)
     → (xs : List (List ℕ)) (a : List ℕ) (n : ℕ) → IsWrongAt Is IsWrong xs n → AreBytesOf Is xs a → ⊥
 bytes_none Is IsWrong none [] a n h k = h
@@ -52,11 +52,11 @@ line_one dump x a b h k = bytes_one IsWord word_one (words_of (column_of dump x)
 line_none : (dump : Bool) (x a : List ℕ) (n : ℕ) → IsWrongLine dump x n → IsLine dump x a → ⊥
 line_none dump x a n (m, place, wrong) is = bytes_none IsWord IsWrongWord word_none (words_of (column_of dump x)) a m wrong is
 
--- A text spells at most one list of bytes.
+-- A text denotes at most one list of bytes.
 pub text_one : (text a b : List ℕ) → SpellsBytes text a → SpellsBytes text b → a ≡ b
 text_one text a b h k = bytes_one (IsLine (is_dump text)) (line_one (is_dump text)) (lines_of text) a b h k
 
--- A text with a wrong line spells no bytes.
+-- A text with a wrong line denotes no bytes.
 text_none : (text a : List ℕ) (n : ℕ) → IsWrongAt (IsLine (is_dump text)) (IsWrongLine (is_dump text)) (lines_of text) n → SpellsBytes text a → ⊥
 text_none text a n wrong is =
     bytes_none (IsLine (is_dump text)) (IsWrongLine (is_dump text)) (line_none (is_dump text)) (lines_of text) a n wrong is
@@ -89,7 +89,7 @@ rest_after n xs = take_all (length xs - n) (drop n xs) (omega (arith, length-dro
 
 -- ---- what is read so far
 
--- The bytes so far are those of the parts of the text before the rest.
+-- The bytes so far are those of the parts before the remaining text.
 pub record IsReadUpTo (Is : List ℕ → List ℕ → Type 0) (IsWrong : List ℕ → ℕ → Type 0) (p : ℕ → Bool) (text bytes rest : List ℕ) : Type 0 where
   pub gives : (back : List ℕ) → AreBytesOf Is (slice_split p rest) back → AreBytesOf Is (slice_split p text) (bytes ++ back)
   pub wrong : (m : ℕ) → IsWrongAt Is IsWrong (slice_split p rest) m → IsWrongAt Is IsWrong (slice_split p text) (length text - length rest + m)
@@ -124,7 +124,7 @@ up_to-more Is IsWrong p text bytes rest front i before is one =
       fits = omega (arith, left, fits);
     }
 
--- The same in the terms of the code: of the slice of the rest behind the part, and of the bytes with those of the part.
+-- The same in the terms of the code: of the slice after the part, and of the bytes so far with those of the part.
 pub up_to-step : (Is : List ℕ → List ℕ → Type 0) (IsWrong : List ℕ → ℕ → Type 0) (p : ℕ → Bool) (text bytes rest front read new : List ℕ) (i : ℕ)
     → IsReadUpTo Is IsWrong p text bytes rest → position p rest ≡ Some i → Is (take i rest) front → read ≡ front → new ≡ bytes ++ read
     → IsReadUpTo Is IsWrong p text new (take (length rest - (i + 1)) (drop (i + 1) rest))
@@ -183,12 +183,12 @@ wrong-last p xs none = let far = none_passes p xs none in omega (arith, far)
 pub any-first : (q : List ℕ → Bool) (p : ℕ → Bool) (xs : List ℕ) (i : ℕ) → position p xs ≡ Some i → q (take i xs) ≡ true → list_any q (slice_split p xs) ≡ true
 any-first q p xs i is passes = ap (list_any q) (first_part p xs i is) ∙ rw passes refl
 
--- If it doesn't, one of those behind it has to.
+-- If it isn't, one of the parts after it is.
 pub any-after : (q : List ℕ → Bool) (p : ℕ → Bool) (xs : List ℕ) (i : ℕ) → position p xs ≡ Some i → q (take i xs) ≡ false
     → list_any q (slice_split p xs) ≡ list_any q (slice_split p (take (length xs - (i + 1)) (drop (i + 1) xs)))
 any-after q p xs i is fails = rw (rest_after (i + 1) xs) (ap (list_any q) (first_part p xs i is) ∙ rw fails refl)
 
--- What is behind is not longer.
+-- The remaining text is no longer.
 pub after_fits : (n : ℕ) (xs : List ℕ) → length (take (length xs - n) (drop n xs)) ≤ length xs
 after_fits n xs = rw (rest_after n xs) (omega (arith, length-drop n xs))
 
@@ -241,7 +241,7 @@ line_refused dump line text column place start (Err e) is cut (inr memory) = inr
 
 -- ---- the column of a line of xxd
 
--- What is left behind the offset and the blanks.
+-- The remaining text after the offset and the blanks.
 pub behind_offset : (line trimmed : List ℕ) → IsTrimAsciiStart (take (length line - 9) (drop 9 line)) trimmed → trimmed ≡ unblank (drop 9 line)
 behind_offset line trimmed trim = trim_is (take (length line - 9) (drop 9 line)) trimmed trim ∙ ap unblank (rest_after 9 line)
 
@@ -262,7 +262,7 @@ up_to-cons : (mark : List ℕ) (x : ℕ) (rest : List ℕ) → starts_with nat_e
 unfolding up_to
 up_to-cons mark x rest other = rw other refl
 
--- Nothing is before a mark that stands at the front.
+-- If a text begins with the mark, the text before the mark is empty.
 up_to-here : (mark : List ℕ) (x : ℕ) (rest : List ℕ) → starts_with nat_eq (x ∷ rest) mark ≡ true → up_to mark (x ∷ rest) ≡ []
 unfolding up_to
 up_to-here mark x rest here = rw here refl

@@ -7,13 +7,13 @@ use Rattle.postcard_schema_text.specs.Text.{characters, unblank}
 
 -- ---- parts in a row
 
--- Parts spell these bytes, one part after another, if `Is` says which bytes a part spells.
+-- Parts denote these bytes, one part after another, if `Is` says which bytes a part denotes.
 abbrev pub AreBytesOf : (List ℕ → List ℕ → Type 0) → List (List ℕ) → List ℕ → Type 0
 AreBytesOf Is [] bytes = bytes ≡ []
 AreBytesOf Is (part ∷ parts) bytes =
     (front : List ℕ) × (rest : List ℕ) × Is part front × AreBytesOf Is parts rest × (bytes ≡ front ++ rest)
 
--- The parts are written with a byte between each two. The first part that spells no bytes is wrong at index `n` of the whole text.
+-- The parts are written with a byte between each two. The first part that denotes no bytes is wrong at index `n` of the whole text.
 -- `IsWrong` says at which index a part is wrong.
 abbrev pub IsWrongAt : (List ℕ → List ℕ → Type 0) → (List ℕ → ℕ → Type 0) → List (List ℕ) → ℕ → Type 0
 IsWrongAt Is IsWrong [] n = ⊥
@@ -27,7 +27,7 @@ IsWrongAt Is IsWrong (part ∷ parts) n =
 abbrev pub is_separator : ℕ → Bool
 is_separator b = is_ascii_whitespace b || (b == 58 || (b == 44 || b == 45))
 
--- The words of a text: the parts between its separators. Empty ones spell no bytes.
+-- The words of a text: the parts between its separators. Empty ones denote no bytes.
 abbrev pub words_of : List ℕ → List (List ℕ)
 words_of text = slice_split is_separator text
 
@@ -35,7 +35,7 @@ words_of text = slice_split is_separator text
 abbrev pub digits_of : List ℕ → List ℕ
 digits_of word = if starts_with nat_eq word (codes "0x") then drop 2 word else word
 
--- The digits of a word spell these bytes.
+-- The digits of a word denote these bytes.
 abbrev pub IsWord : List ℕ → List ℕ → Type 0
 IsWord word bytes = decode_of (digits_of word) ≡ Ok bytes
 
@@ -43,8 +43,7 @@ IsWord word bytes = decode_of (digits_of word) ≡ Ok bytes
 unfoldable pub wrong_digit : List ℕ → ℕ
 wrong_digit digits = min (position_or_len (λ b. not (is_ascii_hexdigit b)) digits) (length digits - 1)
 
--- The digits of a word spell no bytes: the byte at index `n` is the first that is no digit, or the
--- last of an odd number of digits.
+-- The digits of a word denote no bytes. The byte at index `n` is the first that is no digit, or the last of an odd number of digits.
 abbrev pub IsWrongWord : List ℕ → ℕ → Type 0
 IsWrongWord word n =
     IsErr (decode_of (digits_of word)) × (n ≡ length word - length (digits_of word) + wrong_digit (digits_of word))
@@ -77,19 +76,19 @@ begins_with_byte text = begins_with_digits 2 text && begins_blank (drop 2 text)
 unfoldable pub is_of_hexdump : List ℕ → Bool
 is_of_hexdump line = begins_with_digits 8 line && (starts_with nat_eq (drop 8 line) (codes "  ") && begins_with_byte (drop 10 line))
 
--- Whether a line is eight digits, and perhaps blanks behind them, as the last line of `hexdump -C`.
+-- Whether a line is eight digits, and perhaps blanks after them, as the last line of `hexdump -C`.
 unfoldable pub is_lone_offset : List ℕ → Bool
 is_lone_offset line = begins_with_digits 8 line && list_all is_ascii_whitespace (drop 8 line)
 
--- The index in a line at which its bytes begin, behind its offset.
+-- The index in a line at which its bytes begin, after its offset.
 unfoldable pub start_of : List ℕ → ℕ
 start_of line =
     if is_of_xxd line then length line - length (unblank (drop 9 line))
     else if is_of_hexdump line then 8
     else 0
 
--- The bytes of a line without its offset and the text behind. In a `dump`, a text with a line of
--- `hexdump -C`, eight digits alone are an offset.
+-- The bytes of a line without its offset and the text after them. In a `dump`, a text with a line of `hexdump -C`, eight digits alone are
+-- an offset.
 unfoldable pub column_of : Bool → List ℕ → List ℕ
 column_of dump line =
     if is_of_xxd line then up_to (codes "  ") (unblank (drop 9 line))
@@ -97,11 +96,11 @@ column_of dump line =
     else if dump && is_lone_offset line then []
     else line
 
--- A line spells the bytes of its words.
+-- A line denotes the bytes of its words.
 abbrev pub IsLine : Bool → List ℕ → List ℕ → Type 0
 IsLine dump line bytes = AreBytesOf IsWord (words_of (column_of dump line)) bytes
 
--- A line is wrong where the first of its words is that spells no bytes.
+-- A line is wrong where the first of its words is that denotes no bytes.
 abbrev pub IsWrongLine : Bool → List ℕ → ℕ → Type 0
 IsWrongLine dump line n =
     (m : ℕ) × (n ≡ start_of line + m) × IsWrongAt IsWord IsWrongWord (words_of (column_of dump line)) m
@@ -116,11 +115,11 @@ lines_of text = slice_split (λ b. b == 10) text
 unfoldable pub is_dump : List ℕ → Bool
 is_dump text = list_any is_of_hexdump (lines_of text)
 
--- The text spells these bytes.
+-- The text denotes these bytes.
 abbrev pub SpellsBytes : List ℕ → List ℕ → Type 0
 SpellsBytes text bytes = AreBytesOf (IsLine (is_dump text)) (lines_of text) bytes
 
--- The text spells no bytes, and its first wrong character is that with number `n`, counted from 1.
+-- The text denotes no bytes, and its first wrong character is that with number `n`, counted from 1.
 abbrev pub IsWrongHex : List ℕ → ℕ → Type 0
 IsWrongHex text n =
     ((bytes : List ℕ) → SpellsBytes text bytes → ⊥)

@@ -9,8 +9,8 @@ use Rattle.pcard_bytes.specs.declared.input.InputError.TheVariants.{BadHex, Read
 abbrev pub IsInput : Option (List ℕ) → Option (List ℕ) → List ℕ → Type 0
 IsInput known left bytes = Consumes known left bytes × IsAtEnd left
 
--- The bytes that the word HEX stands for: those that it spells itself, or, if it is `-`, that the
--- whole input spells. No other bytes are spelled.
+-- The bytes that the word HEX stands for: those that it denotes itself, or, if it is `-`, that the whole input denotes. It stands for no
+-- other bytes.
 pub record StandsFor (hex : List ℕ) (known left : Option (List ℕ)) (bytes : List ℕ) : Type 0 where
   pub digits : List ℕ
   pub own : hex ≢ codes "-" → digits ≡ hex
@@ -35,8 +35,7 @@ InputFails reads steady known left ReadFailed = steady → ⊥
 InputFails reads steady known left Limit = ReadsAtLeast reads known left
 InputFails reads steady known left OutOfMemory = Unit {0}
 
--- The failures of reading HEX. It is bad if its text spells no bytes, at the first wrong character.
--- The input fails only if HEX is `-`.
+-- The failures of reading HEX. It is bad if its text denotes no bytes, at the first wrong character. The input fails only if HEX is `-`.
 abbrev pub HexFails : ℕ → Type 0 → List ℕ → Option (List ℕ) → Option (List ℕ) → InputError → Type 0
 HexFails reads steady hex known left (BadHex n) = (digits : List ℕ) × IsDigitText hex known left digits × IsWrongHex digits n
 HexFails reads steady hex known left ReadFailed = (hex ≡ codes "-") × (steady → ⊥)

@@ -14,7 +14,7 @@ use crc::{
 };
 use postcard_wire::{Error, Result};
 
-/// The lines of the catalogue: the name, the width in bits, and the checksum of the text
+/// The lines of the catalogue: the name, the width in bits, and the checksum of the string
 /// `123456789`.
 pub const CATALOG: &str = "\
 CRC-8/SMBUS      8  f4
@@ -200,7 +200,7 @@ impl Checksum {
         digits
     }
 
-    /// Returns the bytes that come after a message: those of its checksum, the lowest first.
+    /// Returns the bytes of a message's checksum, the lowest first, which come after the message.
     pub fn trailer(self, message: &[u8]) -> ArrayVec<u8, 16>
         ensures { (crc : ℕ) × IsChecksum self message.now crc
             × (result.items ≡ trailer_of self crc) }
@@ -211,8 +211,8 @@ impl Checksum {
     }
 }
 
-/// Returns the checksum of bytes by an algorithm of at most 8 bits. The functions below do so for
-/// more.
+/// Returns the checksum of bytes by an algorithm of at most 8 bits. The functions below are for
+/// wider ones.
 fn checksum_in_u8(algorithm: &Algorithm<u8>, bytes: &[u8]) -> u128
     requires { IsValid 8 (parameters (λ n. n) algorithm.now) }
     ensures { IsCrc (parameters (λ n. n) algorithm.now) bytes.now result }

@@ -6,8 +6,8 @@ ghost use Rattle.pcard_bytes.specs.{decode_of};
 use hex::FromHex;
 use std::alloc::{AllocError, Global};
 
-/// Returns the bytes of a text of hexadecimal digits, of either case, or `None` if the text has
-/// another character or an odd number of digits.
+/// Returns the bytes of a text of hexadecimal digits, of either case. Returns `None` if the text
+/// has another character or an odd number of digits.
 pub fn decode(alloc: Global, text: &[u8]) -> Result<Option<Vec<u8>>, AllocError>
     ensures { IfOk result (λ read. MatchOption read (IsErr (decode_of text.now))
         (λ bytes. decode_of text.now ≡ Ok bytes.items)) }

@@ -8,14 +8,14 @@ use crate::pasted;
 use postcard_de_flavors::Reader;
 use std::alloc::Global;
 
-/// Returns the bytes of a text of hexadecimal digits as it is pasted: with blanks, colons, commas or
-/// hyphens between the bytes, or as the lines of `xxd` or of `hexdump -C`. For the text `-`, the
-/// input is read to its end and is the text.
+/// Returns the bytes of a pasted text of hexadecimal digits. Blanks, colons, commas or hyphens may
+/// stand between the bytes, and the text may be the lines of `xxd` or of `hexdump -C`. If the word
+/// is `-`, the whole input is the text.
 ///
 /// # Errors
 ///
-/// Fails with `BadHex` if a word of the text isn't an even number of digits, after `0x` or not, and
-/// as [`read_input`] does.
+/// Fails with `BadHex` if a word of the text isn't an even number of digits. A word may begin with
+/// `0x`. Also fails as [`read_input`] does.
 pub fn read_hex<R: Reader>(alloc: Global, text: &str, input: &mut R) -> Result<Vec<u8>, InputError>
     ensures value { IfOk result (λ bytes. StandsFor text.now (R.remaining input.old)
         (R.remaining input.new) bytes.items) }

@@ -1,5 +1,5 @@
-//! Bytes as words of a call: the hexadecimal digits of a word or of standard input, in the layouts
-//! in which they are pasted, and checksums by their names.
+//! Bytes and checksums as arguments of a command. Bytes are hexadecimal digits, of a word or of
+//! standard input, in the layouts in which they are pasted. Checksums are chosen by name.
 #![tactic(auto)]
 
 pub mod checksum;

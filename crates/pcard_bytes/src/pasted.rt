@@ -1,5 +1,5 @@
-//! Reading bytes from a text of hexadecimal digits as it is pasted: with separators between the
-//! bytes, or as the lines of a dump. The functions below [`read`] fail as it does.
+//! Reading bytes from a pasted text of hexadecimal digits, with separators between the bytes or as
+//! the lines of a dump. The functions below [`read`] fail as it does.
 
 ghost use Rattle.std.specs.Prelude.{◌≡◌, ◌==◌, ◌≤◌, ◌+◌, ◌⊎◌, ℕ, List, length, take, true, not};
 ghost use Rattle.std.specs.Prelude.{IfOk, IfErr};
@@ -16,9 +16,9 @@ use crate::input::InputError;
 use postcard_schema_text::scan::character_of;
 use std::alloc::Global;
 
-/// Returns the bytes of a text, which are those of the words of its lines, in order. Of a line that
-/// `xxd` or `hexdump -C` printed, the offset and the text after the bytes are passed over. Fails
-/// with `BadHex` if a word isn't an even number of digits, after `0x` or not.
+/// Returns the bytes of a text: those of the words of its lines, in order. In a line that `xxd` or
+/// `hexdump -C` printed, the offset and the text after the bytes are skipped. Fails with `BadHex`
+/// if a word isn't an even number of digits. A word may begin with `0x`.
 pub fn read(alloc: Global, text: &[u8]) -> Result<Vec<u8>, InputError>
     ensures value { IfOk result (λ bytes. SpellsBytes text.now bytes.items) }
     ensures only { IfOk result (λ bytes. (other : List ℕ) → SpellsBytes text.now other

@@ -31,9 +31,11 @@ abbrev pub safe_status : Bool → ℕ
 safe_status true = 0
 safe_status false = 1
 
+-- The text of the outcome is printed, and the exit status says whether it is safe. Status 3 says that it can't be printed.
 abbrev pub PrintsOutcome : Outcome → Option (List ℕ) → Option (List ℕ) → ℕ → Type 0
 PrintsOutcome o old new status = (status ≡ 3) ⊎ ((status ≡ safe_status o.is_safe) × Appends old new (string_bytes o.text))
 
+-- The outcome or the line of its failure is printed, with the exit status.
 abbrev pub EndsCall : Result Outcome PrintError → Option (List ℕ) → Option (List ℕ) → ℕ → Type 0
 EndsCall (Ok outcome) old new status = PrintsOutcome outcome old new status
 EndsCall (Err error) old new status = AnswersFailure (failure_of_print error) old new status
@@ -48,7 +50,7 @@ pub record IsMisusedCall (words : Words) (old new told now_told : Option (List �
 abbrev pub IsFirstLeft : (List ℕ → List ℕ → Type 0) → List ℕ → List ℕ → List ℕ → Type 0
 IsFirstLeft gives old_word new_word word = (word ≡ old_word) ⊎ (((schema : Schema) × IsTypeOf gives old_word schema) × (word ≡ new_word))
 
--- The first of the two words that stands for no type is reported so.
+-- If one of the two arguments stands for no type, the first such argument is reported.
 pub record IsUntypedCall (gives : List ℕ → List ℕ → Type 0) (lacks : List ℕ → Type 0) (words : Words) (old new told now_told : Option (List ℕ)) (status : ℕ) : Type 0 where
   pub options : Options
   pub old_word : List ℕ

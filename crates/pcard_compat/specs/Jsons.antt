@@ -12,7 +12,7 @@ use Rattle.pcard_print.specs.Lines.{IsJsonOf, bytes_member, error_words, field_m
 use Rattle.pcard_compat.specs.declared.version.Version.{Version}
 use Rattle.pcard_compat.specs.Texts.{AreEach, bytes_after, verdict_name}
 
--- The object of a difference: how its part differs, and the path of the part unless that is the whole.
+-- The object of a difference: how its part differs, and the path of the part. The path of the whole is left out.
 abbrev pub IsObject : Difference → List ℕ → Type 0
 IsObject d object = (what : List ℕ) × (object ≡ codes "{\"what\":" ++ (quoted what ++ (field_member (string_bytes d.path) ++ codes "}")))
 

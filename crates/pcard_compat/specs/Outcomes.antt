@@ -42,6 +42,7 @@ pub record IsHostOf (old new : Schema) (expression : List ℕ) : Type 0 where
   pub serves_old : Serves (type_of host) (type_of old)
   pub serves_new : Serves (type_of host) (type_of new)
 
+-- The line of a type by which a host reads both versions, as JSON or as text.
 abbrev pub host_text : Bool → List ℕ → List ℕ
 host_text true expression = codes "{\"both\":" ++ (quoted expression ++ codes "}\n")
 host_text false expression = codes "both: a host reads either version as " ++ (expression ++ 10 ∷ [])
@@ -63,6 +64,7 @@ pub record IsBothWays (options : Options) (old new : Version) (said : List ℕ) 
   pub lines : said ≡ forth ++ (back ++ host)
   pub safety : safe ≡ (forth_safe && back_safe)
 
+-- The text and the safety of the outcome, of both directions or of one.
 abbrev pub IsOutcomeOf : Bool → Options → Version → Version → List ℕ → Bool → Type 0
 IsOutcomeOf true options old new said safe = IsBothWays options old new said safe
 IsOutcomeOf false options old new said safe = IsWay options old new said safe

@@ -10,11 +10,13 @@ use Rattle.pcard_compat.specs.declared.request.Misuse.TheVariants.{UnknownOption
 abbrev pub Words : Type 0
 Words = List (List ℕ)
 
+-- The word of an option.
 abbrev pub switch_name : Switch → List ℕ
 switch_name Both = codes "--both"
 switch_name Framed = codes "--framed"
 switch_name Json = codes "--json"
 
+-- The options of a call without options.
 abbrev pub no_options : Options
 no_options = record { both = false; framed = false; json = false }
 
@@ -74,6 +76,7 @@ pub record HasOtherOperands (words : Words) : Type 0 where
 abbrev pub IsMisuse : Words → Misuse → Type 0
 IsMisuse words misuse = IsMisused no_options words misuse ⊎ ((misuse ≡ Operands) × HasOtherOperands words)
 
+-- The line that says why arguments are invalid.
 abbrev pub misuse_text : Misuse → List ℕ
 misuse_text (UnknownOption word) = codes "unknown option " ++ (word.now ++ codes "; compat takes [--both] [--framed] [--json] OLD NEW")
 misuse_text (Twice switch) = switch_name switch ++ codes " stands twice"

@@ -22,6 +22,7 @@ abbrev pub side_name : Side → List ℕ
 side_name Old = codes "OLD"
 side_name New = codes "NEW"
 
+-- The word of a verdict.
 abbrev pub verdict_name : Verdict → List ℕ
 verdict_name Same = codes "same"
 verdict_name Front = codes "front"
@@ -38,6 +39,7 @@ before_name_of Misread example = codes "some message of"
 before_name_of Differs None = codes "the types differ, and no message of"
 before_name_of Differs (Some example) = codes "some messages of"
 
+-- The meaning of the verdict, up to the name of the writer.
 abbrev pub before_name : Comparison → List ℕ
 before_name c = before_name_of c.verdict c.example
 
@@ -50,9 +52,11 @@ after_name_of Misread example = codes "is read as another value"
 after_name_of Differs None = codes "was found that shows it"
 after_name_of Differs (Some example) = codes "are refused or not read to their end"
 
+-- The meaning of the verdict, after the name of the writer.
 abbrev pub after_name : Comparison → List ℕ
 after_name c = after_name_of c.verdict c.example
 
+-- The first line of a comparison: the word of the verdict and its meaning.
 abbrev pub first_line : Side → Comparison → List ℕ
 first_line side c =
     verdict_name c.verdict ++ (codes ": " ++ (before_name c ++ (codes " " ++ (side_name side ++ (codes " " ++ (after_name c ++ 10 ∷ []))))))
@@ -75,7 +79,7 @@ IsLine d line = (what : List ℕ) × (line ≡ place_name (string_bytes d.path) 
 abbrev pub Shows : Option (List ℕ) → List ℕ → Type 0
 Shows known shown = IfSome known (λ it. shown ≡ it)
 
--- The last bytes, so many, or all if there are fewer.
+-- The last `left` bytes, or all if there are fewer.
 abbrev pub bytes_after : List ℕ → ℕ → List ℕ
 bytes_after bytes left = drop (length bytes - left) bytes
 

@@ -7,7 +7,8 @@ use Rattle.pcard_files.specs.TypeName.{Declares, IsFaultOf, IsNameWord}
 use Rattle.pcard_compat.specs.declared.type_word.NoType.{NoType}
 use Rattle.pcard_compat.specs.declared.type_word.NoType.TheVariants.{File, Expression}
 
--- The word is no name of a type in a file, and the text is the word; or it is, and the text is an expression of that type.
+-- The text is the expression that the argument stands for. If the argument names a type in a file, it is an expression of that type.
+-- Otherwise it is the argument itself.
 abbrev pub IsTextOf : (List ℕ → List ℕ → Type 0) → List ℕ → List ℕ → Type 0
 IsTextOf gives word text =
     (((file name : List ℕ) → IsNameWord word file name → ⊥) × (text ≡ word))

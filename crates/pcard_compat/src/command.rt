@@ -14,20 +14,20 @@ use pcard_print::PrintError;
 use std::alloc::Global;
 use std::io::Write;
 
-/// The exit status if what there is to print can't be written.
+/// The exit status if the answer or the error can't be written.
 const UNWRITTEN: u8 = 3;
 
-/// Does the call of these words, which come after `compat`, and returns the exit status:
+/// Runs `pcard compat` with these arguments, and returns the exit status:
 ///
 /// - 0 if the answer is `same`, with `--framed` also if it is `front`, and with `--both` only if both
 ///   answers are so;
 /// - 1 for other answers, or if an allocation fails;
-/// - 2 if the words are no call, or if one of the two types is wrong;
-/// - 3 if what there is to print can't be written.
+/// - 2 if the arguments are invalid, or if one of the two types is wrong;
+/// - 3 if the answer or the error can't be written.
 ///
-/// Words that are no call print the usage on `output`, and why they are none on `errors`. A line on
+/// For invalid arguments the usage is printed on `output`, and what is wrong on `errors`. A line on
 /// `errors` says what is wrong with a file, and one on `output` what is wrong with an expression.
-/// Nothing is printed to `output` before the types are compared.
+/// Otherwise nothing is printed to `output` before the types are compared.
 pub fn answer<F: Files, W: Write, E: Write>(
     alloc: Global,
     words: &[String],
@@ -55,7 +55,7 @@ pub fn answer<F: Files, W: Write, E: Write>(
     end_call(outcome_of(alloc, request.options, &old, &new), output)
 }
 
-/// Prints the usage, and why some words are no call. Returns the exit status.
+/// Prints the usage, and what is wrong with the arguments. Returns the exit status.
 fn refuse_words<W: Write, E: Write>(misuse: Misuse<'_>, output: &mut W, errors: &mut E) -> u8
     ensures { RefusesWords misuse.entry (W.contents output.old) (W.contents output.new)
         (E.contents errors.old) (E.contents errors.new) result }
@@ -66,7 +66,7 @@ fn refuse_words<W: Write, E: Write>(misuse: Misuse<'_>, output: &mut W, errors: 
     }
 }
 
-/// Prints why a word stands for no type, and returns the exit status.
+/// Prints why an argument stands for no type, and returns the exit status.
 fn refuse_type<W: Write, E: Write>(why: NoType<'_>, output: &mut W, errors: &mut E) -> u8
     ensures { RefusesType why.entry (W.contents output.old) (W.contents output.new)
         (E.contents errors.old) (E.contents errors.new) result }
@@ -77,7 +77,7 @@ fn refuse_type<W: Write, E: Write>(why: NoType<'_>, output: &mut W, errors: &mut
     }
 }
 
-/// Prints what a call finds, or the line of its failure, and returns the exit status.
+/// Prints the outcome of a call, or the line of its failure, and returns the exit status.
 fn end_call<W: Write>(outcome: Result<Outcome, PrintError>, output: &mut W) -> u8
     ensures { EndsCall outcome (W.contents output.old) (W.contents output.new) result }
 {

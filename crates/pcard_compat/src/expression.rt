@@ -3,7 +3,8 @@
 use postcard_schema::{Field, Schema, Variant};
 use std::alloc::{AllocError, Global};
 
-/// Returns the expression of a type. It promises nothing: [`crate::host`] reads it again.
+/// Returns the expression of a type. No contract says so: [`crate::host`] reads the expression
+/// again to be sure.
 ///
 /// # Errors
 ///
@@ -76,7 +77,7 @@ fn enum_of(alloc: Global, variants: &Vec<Variant>) -> Result<String, AllocError>
     }
 }
 
-/// Returns the content of a variant as it stands after its name.
+/// Returns the expression of a variant's content, as it stands after the variant's name.
 #[cycle(expression_of)]
 fn content_of(alloc: Global, content: &Schema) -> Result<String, AllocError> {
     let text = expression_of(alloc, content)?;
@@ -87,7 +88,7 @@ fn content_of(alloc: Global, content: &Schema) -> Result<String, AllocError> {
     }
 }
 
-/// Appends a text, after a sign unless it is the first.
+/// Appends a text. If the string is not empty, appends a sign before it.
 fn push_after(sign: &str, part: &str, text: &mut String) -> Result<(), AllocError> {
     if !text.is_empty() {
         text.push_str(sign)?;

@@ -10,7 +10,7 @@ use postcard_schema_text::{Problem, parse};
 use std::alloc::{AllocError, Global};
 
 /// Returns an expression of a type that reads each message of both types as the same. Its names are
-/// those of the types. Returns `None` if none is found, which promises nothing.
+/// those of the types. Returns `None` if none is found. `None` promises nothing.
 ///
 /// # Errors
 ///
@@ -34,8 +34,8 @@ pub fn host_expression(
     host_text(alloc, old, old, new)
 }
 
-/// Returns the expression of a type if it reads both types. The expression is read again for that,
-/// so that this is known of the text.
+/// Returns the expression of a type if that type reads both types. The expression is parsed again
+/// and compared, so that the contract speaks of the text itself.
 fn host_text(
     alloc: Global,
     host: &Schema,

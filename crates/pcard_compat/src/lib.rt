@@ -1,9 +1,9 @@
 //! The call `pcard compat OLD NEW`: whether a new version of a type reads what the old one writes.
 //!
-//! [`answer`] does the call of some words. It reads them ([`request`]) and the two types
-//! ([`type_word`]), compares the types by `postcard_compat`, and prints what it found, as text
-//! ([`text`]) or as JSON ([`object`]). With `--both` it compares them in both directions, and prints a
-//! type by which a host reads both versions ([`host`]).
+//! [`answer`] runs the command. It reads the arguments ([`request`]) and the two types
+//! ([`type_word`]). It compares the types by `postcard_compat`, and prints the result as text
+//! ([`text`]) or as JSON ([`object`]). With `--both` it compares them in both directions, and
+//! prints a type by which a host reads both versions ([`host`]).
 #![tactic(auto)]
 
 pub mod command;

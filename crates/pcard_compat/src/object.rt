@@ -11,8 +11,8 @@ use postcard_compat::{Comparison, Difference, Example, Reading};
 use std::alloc::{AllocError, Global};
 
 /// Returns the line of a comparison of what the writer writes with what the reader reads. It is an
-/// object with the word, the differences, the notes, and the example. Each but the word is left out
-/// if there is none.
+/// object with the word of the verdict, and with the differences, the notes and the example that
+/// there are.
 ///
 /// # Errors
 ///

@@ -1,4 +1,4 @@
-//! What a call finds, and what it prints of that: [`outcome_of`].
+//! The outcome of a call, and the lines that it prints: [`outcome_of`].
 
 ghost use Rattle.std.specs.Prelude.{◌≡◌, IfErr, IfOk, string_bytes};
 ghost use Rattle.pcard_compat.specs.{FailsToShow, IsBothWays, IsHostLine, IsOutcome, IsShown, IsWay};
@@ -14,17 +14,17 @@ use postcard_compat::{Comparison, Verdict, compare};
 use postcard_schema::Schema;
 use std::alloc::{AllocError, Global};
 
-/// What a call finds.
+/// The outcome of a call.
 #[derive(Debug, Drop)]
 pub struct Outcome {
     /// The lines that it prints.
     pub text: String,
-    /// Whether the types do for the options. The exit status says so.
+    /// Whether the verdict is good enough for the options, as the exit status says.
     pub is_safe: bool,
 }
 
-/// Compares two types by the options of a call. With `both`, the other direction and a type for a
-/// host that reads both versions, if one is found, come after the first.
+/// Compares two types by the options of a call. With `both`, the lines of the other direction
+/// follow. Then comes a type for a host that reads both versions, if one is found.
 ///
 /// # Errors
 ///
@@ -116,7 +116,7 @@ fn shown(
     Ok(text)
 }
 
-/// Returns whether a word does: `same`, and in frames `front`.
+/// Returns whether the verdict is good enough: `same`, or in frames also `front`.
 fn is_safe(framed: bool, verdict: Verdict) -> bool
     ensures { result ≡ is_safe framed verdict }
 {

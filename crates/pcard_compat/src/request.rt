@@ -1,4 +1,4 @@
-//! The words of a call: options in any order, and two types.
+//! The arguments of `pcard compat`: options in any order, and two types.
 
 ghost use Rattle.std.specs.Prelude.{◌≡◌, ◌≢◌, IfErr, IfNone, IfOk, IfSome, Some, map, string_bytes};
 ghost use Rattle.pcard_compat.specs.{IsBadSwitch, IsMisuse, IsMisused, IsNewSwitch, IsRequest};
@@ -93,7 +93,7 @@ impl Options {
     }
 }
 
-/// One call: what its words say.
+/// One call, read from its arguments.
 #[derive(Clone, Copy, Debug)]
 pub struct Request<'a> {
     /// How the types are compared.
@@ -104,8 +104,8 @@ pub struct Request<'a> {
     pub new: &'a str,
 }
 
-/// Why some words are no call. It is printed as a line that names the word that is wrong, and what
-/// would do.
+/// Why arguments are invalid. It is printed as a line that names the wrong argument, and what is
+/// expected.
 #[derive(Clone, Copy, Debug, PartialEq, Eq)]
 pub enum Misuse<'a> {
     /// No option has this name.
@@ -135,12 +135,13 @@ impl fmt::Display for Misuse<'_> {
 }
 
 impl<'a> Request<'a> {
-    /// Returns the call of these words, which come after `compat`: options in any order, each at most
-    /// once, and then OLD and NEW.
+    /// Reads the arguments after `compat`: options in any order, each at most once, and then OLD
+    /// and NEW.
     ///
     /// # Errors
     ///
-    /// Fails with the first option that is wrong, and with `Operands` if none is.
+    /// Fails with the first option that is wrong. If no option is wrong, fails with `Operands` if
+    /// the number of types isn't two.
     pub fn parse(words: &'a [String]) -> Result<Request<'a>, Misuse<'a>>
         ensures request { IfOk result (λ request. IsRequest (map string_bytes words.now)
             request.options request.old.now request.new.now) }

@@ -14,8 +14,8 @@ use postcard_value::Value;
 use postcard_value_text::Shown;
 use std::alloc::{AllocError, Global};
 
-/// Returns the lines of a comparison of what the writer writes with what the reader reads: a word
-/// and what it says, the differences, the notes, and the example.
+/// Returns the lines of a comparison of what the writer writes with what the reader reads. They
+/// have the verdict's word and its meaning, the differences, the notes, and the example.
 ///
 /// # Errors
 ///
@@ -36,7 +36,7 @@ pub fn text_lines(
     format!(in alloc; "{first}{differences}{notes}{example}")
 }
 
-/// Returns the word of a comparison.
+/// Returns the word of a verdict.
 pub fn verdict_name(verdict: Verdict) -> &'static str
     ensures { result.now ≡ verdict_name verdict }
 {
@@ -57,7 +57,7 @@ fn first_line(alloc: Global, side: Side, comparison: &Comparison) -> Result<Stri
     format!(in alloc; "{word}: {before} {name} {after}\n")
 }
 
-/// Returns what a word says, up to the name of the writer.
+/// Returns the meaning of the verdict's word, up to the name of the writer.
 fn before_name(comparison: &Comparison) -> &'static str
     ensures { result.now ≡ before_name comparison.now }
 {
@@ -69,7 +69,7 @@ fn before_name(comparison: &Comparison) -> &'static str
     }
 }
 
-/// Returns what a word says after the name of the writer.
+/// Returns the meaning of the verdict's word, after the name of the writer.
 fn after_name(comparison: &Comparison) -> &'static str
     ensures { result.now ≡ after_name comparison.now }
 {

@@ -1,4 +1,4 @@
-//! The type that a word of a call stands for: [`type_of_word`].
+//! The type that an argument stands for: [`type_of_word`].
 
 ghost use Rattle.std.specs.Prelude.{IfErr, IfOk};
 ghost use Rattle.pcard_compat.specs.{IsExpression, IsNoType, IsTypeOf, TypeFails};
@@ -8,7 +8,7 @@ use pcard_message::{Failure, schema_of};
 use postcard_schema::Schema;
 use std::alloc::Global;
 
-/// Why a word stands for no type.
+/// Why an argument stands for no type.
 #[derive(Debug, Drop)]
 pub enum NoType<'a> {
     /// The file with this name has no such type, or isn't read.
@@ -17,13 +17,13 @@ pub enum NoType<'a> {
     Expression(Failure<'static>),
 }
 
-/// Returns the type that a word stands for: that of an expression, or for `@FILE:NAME` the one that
-/// FILE declares with this name.
+/// Returns the type that an argument stands for. `@FILE:NAME` stands for the type that FILE
+/// declares with this name. Any other argument is a type expression.
 ///
 /// # Errors
 ///
-/// Fails with why there is no such type. An allocation that fails is a fault of the file, or the
-/// failure `Library(OutOfMemory)`.
+/// Fails with the reason if there is no such type. An allocation that fails is a fault of the file,
+/// or the failure `Library(OutOfMemory)`.
 pub fn type_of_word<'a, F: Files>(
     alloc: Global,
     word: &'a str,

@@ -1,4 +1,4 @@
-//! The two versions of a type, and the words for them.
+//! The two versions of a type, and the names that answers give them.
 
 ghost use Rattle.std.specs.Prelude.{◌≡◌};
 ghost use Rattle.pcard_compat.specs.{side_name};

@@ -43,7 +43,7 @@ no_zero group =
     let none : nat_lt (length group + 1 - 1) (length (group ++ [])) ≡ false = le-ltb (length group + 1 - 1) (length (group ++ [])) (omega (arith, length-append group [])) in
     ap (λ (b : Bool). nat_lt (length group + 1) 255 && b) none ∙ never (nat_lt (length group + 1) 255)
 
--- One comes after another, unless it is full.
+-- A group that isn't full and that another follows has a zero after it.
 a_zero : (group rest : List ℕ) → length group ≤ 254 → 0 < length rest → has_zero (length group + 1) (length (group ++ rest)) ≡ not (eqb (length group) 254)
 a_zero group rest fits some = elim (cases_eq (length group) 254) [
   | inl full ↦

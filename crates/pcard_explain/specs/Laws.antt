@@ -10,7 +10,7 @@ use Rattle.pcard_explain.specs.Notes.{Noted, code, end, frame_notes}
 use Rattle.pcard_explain.specs.Rows.{IsSplit}
 
 -- The rows of groups, of which each but the last is followed by another. Each has a row for its code byte, which is the number of its bytes
--- and one. One row is for the zero after them. The data has a zero after each group that another follows, unless it is full.
+-- and one. One row is for the zero after them. The data has a zero after each group that isn't full and that another group follows.
 abbrev pub group_notes : ℕ → List (List ℕ) → List ℕ → List Noted
 group_notes at [] last =
     record { at = at; bytes = (length last + 1) ∷ []; note = code (length last + 1) false } ∷ record { at = at + (length last + 1); bytes = 0 ∷ []; note = end } ∷ []
@@ -21,7 +21,7 @@ group_notes at (group ∷ groups) last =
 abbrev pub HasCodesOfGroups : Type 0
 HasCodesOfGroups = (F d : List ℕ) (groups : Groups F d) → frame_notes 0 0 F ≡ group_notes 0 groups.before groups.last
 
--- In the rows of bytes that a value is at the front of, the lines of the value have its encoding, and the bytes after it follow.
+-- Let bytes begin with a value. In their rows the lines of the value have its encoding, and the rows after them have the remaining bytes.
 abbrev pub PartsAfterValue : Type 0
 PartsAfterValue = (most : ℕ) (schema : Schema) (bytes : List ℕ) (lines value : List Line) (after : List ℕ) → IsExplained most schema bytes lines
     → IsSplit lines value after → FrontSpells (type_of schema) (bytes_of value) × (bytes ≡ bytes_of value ++ after)

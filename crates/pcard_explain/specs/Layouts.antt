@@ -21,7 +21,7 @@ abbrev pub longest_of : List Line → ℕ
 longest_of [] = 0
 longest_of (line ∷ lines) = max (length line.bytes.now) (longest_of lines)
 
--- The layout of the rows of lines: their offsets have as many digits as the offset after the last line.
+-- The layout of the rows of lines: their offsets have the number of digits of the offset after the last line.
 abbrev pub rows_layout : Notation → Bool → List Line → Layout
 rows_layout notation all lines = record { notation = notation; offset = offset_size (offset (length (bytes_of lines))); longest = longest_of lines; all = all }
 
@@ -31,6 +31,7 @@ rows_layout notation all lines = record { notation = notation; offset = offset_s
 abbrev pub spaced_byte : ℕ → List ℕ
 spaced_byte b = encode_lower (b ∷ []) ++ 32 ∷ []
 
+-- Bytes as digits, with a blank after each byte.
 abbrev pub spaced : List ℕ → List ℕ
 spaced bytes = flat_map spaced_byte bytes
 
@@ -42,8 +43,8 @@ bytes_text layout bytes = if layout.all then spaced bytes else if nat_le (length
 abbrev pub offset_text : Layout → ℕ → List ℕ
 offset_text layout at = encode_lower (drop (8 - layout.offset) (to_be_bytes w64 (offset at)))
 
--- The number of blanks between n bytes and the text of a row: those up to the longest row, one, and two for each level of depth. Of the
--- longest row's columns at most nine count, and of the levels at most twelve.
+-- The number of blanks between n bytes and the text of a row. It is three for each byte that the longest row has more, one, and two for
+-- each level of depth. Of the longest row's columns at most nine count, and of the levels at most twelve.
 abbrev pub blanks_of : Layout → ℕ → ℕ → ℕ
 blanks_of layout depth n = 3 * min layout.longest 9 - 3 * min n 9 + 1 + 2 * min depth 12
 
@@ -52,17 +53,18 @@ abbrev pub head_text : Layout → ℕ → ℕ → List ℕ → List ℕ
 head_text layout at depth bytes =
     offset_text layout at ++ (codes "  " ++ (bytes_text layout bytes ++ replicate (blanks_of layout depth (length bytes)) 32))
 
--- What a row shows of a text: all, or, unless nothing is cut, a prefix and `..`.
+-- What a row shows of a text: all of it, or, if rows may be cut, a prefix of it and `..`.
 abbrev pub IsCut : Layout → List ℕ → List ℕ → Type 0
 IsCut layout text shown =
     (shown ≡ text) ⊎ ((layout.all ≡ false) × ((front : List ℕ) × (back : List ℕ) × (text ≡ front ++ back) × (shown ≡ front ++ codes "..")))
 
--- The row of bytes at this offset and depth, of which this text is said, cut. It has at most 80 bytes and its line feed, unless nothing is
--- cut.
+-- The row of bytes at this offset and depth, of which this text is said, cut. If rows may be cut, it has at most 80 bytes and its line
+-- feed.
 abbrev pub IsRow : Layout → ℕ → ℕ → List ℕ → List ℕ → List ℕ → Type 0
 IsRow layout at depth bytes text row =
     (shown : List ℕ) × IsCut layout text shown × (row ≡ head_text layout at depth bytes ++ (shown ++ 10 ∷ []))
     × (layout.all ≡ false → length row ≤ 81)
 
+-- A row is printed: its head, and its text, which may be cut.
 abbrev pub PrintsRow : Layout → ℕ → ℕ → List ℕ → List ℕ → Option (List ℕ) → Option (List ℕ) → Type 0
 PrintsRow layout at depth bytes text old new = (row : List ℕ) × IsRow layout at depth bytes text row × Appends old new row

@@ -14,8 +14,8 @@ use Rattle.pcard_explain.specs.declared.rows.Trailer.{Trailer as TrailerHere}
 
 -- ---- what is said
 
--- What a row says its bytes are: the checksum with this name; those after the value; the code byte of a group; the zero that ends a frame;
--- those after the frame. A code byte says whether a zero of the data follows its group.
+-- What a row says of its bytes. They are a checksum with a name, the bytes after the value, a group's code byte, a frame's last zero, or
+-- the bytes after the frame. A code byte says whether a zero of the data follows its group.
 pub data Note : Type 0 where
   checksum : List ℕ → Note
   after : Note
@@ -23,6 +23,7 @@ pub data Note : Type 0 where
   end : Note
   beyond : Note
 
+-- The note that a value of the program stands for.
 abbrev pub plain_note : NoteHere → Note
 plain_note (notes.Checksum r) = checksum r.now
 plain_note notes.After = after
@@ -34,12 +35,15 @@ plain_note notes.Beyond = beyond
 abbrev pub zero_text : Bool → List ℕ
 zero_text zero = if zero then codes ", then a zero" else []
 
+-- The words for the number of bytes of a group.
 abbrev pub group_text : ℕ → List ℕ
 group_text n = if nat_eq n 0 then codes "no bytes" else if nat_eq n 1 then codes "1 byte" else decimal n ++ codes " bytes"
 
+-- The words for a code byte: its group, and the zero after it if there is one.
 abbrev pub code_text : ℕ → Bool → List ℕ
 code_text c zero = codes "code: " ++ (group_text (c - 1) ++ zero_text zero)
 
+-- The text of a row of a note.
 abbrev pub note_text : Note → List ℕ
 note_text (checksum name) = codes "checksum: " ++ name
 note_text after = codes "after the value"
@@ -65,6 +69,7 @@ key_text beyond = codes "frame"
 
 -- ---- rows
 
+-- The row of a note is printed, as text or as JSON.
 abbrev pub PrintsNoteIn : Notation → Layout → ℕ → List ℕ → Note → Option (List ℕ) → Option (List ℕ) → Type 0
 PrintsNoteIn Text layout at bytes note old new = PrintsRow layout at 0 bytes (note_text note) old new
 PrintsNoteIn Json layout at bytes note old new = Appends old new (object_text (key_text note) at bytes [] (note_members note))
@@ -108,7 +113,8 @@ rest_notes (Some t) at bytes =
 
 -- ---- frames
 
--- The data has a zero after the group of the code c, which n bytes of the frame follow: another group follows, and this one isn't full.
+-- The data has a zero after the group of the code c: another group follows, and this one isn't full. n is the number of the frame's bytes
+-- after the group.
 abbrev pub has_zero : ℕ → ℕ → Bool
 has_zero c n = nat_lt c 255 && nat_lt (c - 1) n
 

@@ -24,7 +24,8 @@ abbrev pub kind_steps : LineKind → List PlainStep
 kind_steps (Variant i r) = at_name r.now ∷ []
 kind_steps kind = []
 
--- The path around a line of this depth after other lines, of which the last comes first here: that of the last line that is less deep.
+-- The path around a line of this depth after other lines: that of the last line that is less deep. The other lines are given from the last
+-- to the first.
 abbrev pub path_around : List Line → ℕ → List PlainStep
 path_around [] depth = []
 path_around (line ∷ before) depth =
@@ -52,7 +53,7 @@ steps_in parts depth = last_steps 0 parts depth
 abbrev pub around_in : Place → ℕ → List PlainStep
 around_in place depth = take (steps_in place.parts.items depth) (plain_path place.path)
 
--- The parts that are open have the paths around the lines up to this depth after these lines, and a deeper line has a longer one.
+-- After these lines, the open parts have the paths around the lines up to this depth. A deeper line has a longer path.
 pub record AreOpen (place : Place) (seen : List Line) (limit : ℕ) : Type 0 where
   pub around : (d : ℕ) → d ≤ limit → around_in place d ≡ path_around seen d
   pub rising : (d e : ℕ) → d ≤ e → e ≤ limit → steps_in place.parts.items d ≤ steps_in place.parts.items e

@@ -19,6 +19,7 @@ abbrev pub PrintsObject : ℕ → List ℕ → Line → Option (List ℕ) → Op
 PrintsObject at path line old new =
     (members : List ℕ) × IsMembers line.kind members × Appends old new (object_text (codes "at") at line.bytes.now (field_member path) members)
 
+-- The row of a line with a path is printed, as text or as JSON.
 abbrev pub PrintsLineIn : Notation → Layout → ℕ → List ℕ → Line → Option (List ℕ) → Option (List ℕ) → Type 0
 PrintsLineIn Text layout at path line old new =
     IfSome (told_text line) (λ text. PrintsRow layout at line.depth line.bytes.now text old new)
@@ -41,7 +42,7 @@ IsSplit lines value after =
     ((line : Line) × (line.kind ≡ AfterValue) × (lines ≡ value ++ line ∷ []) × (after ≡ line.bytes.now))
     ⊎ (((front : List Line) (line : Line) → lines ≡ front ++ line ∷ [] → line.kind ≢ AfterValue) × (value ≡ lines) × (after ≡ []))
 
--- The rows of lines are printed: those of the value, that of the checksum, if there is a trailer, and that of the bytes after it.
+-- The rows of lines are printed: those of the value, that of the checksum if there is a trailer, and that of the remaining bytes.
 pub record PrintsRows (notation : Notation) (all : Bool) (trailer : Option Trailer) (lines : List Line) (old new : Option (List ℕ)) : Type 0 where
   pub value : List Line
   pub after : List ℕ

@@ -56,6 +56,7 @@ kind_text (MoreElements n) = Some (codes "and " ++ (decimal n ++ codes " more"))
 kind_text (Refused e) = Some (codes "expected " ++ expected_text e)
 kind_text AfterValue = Some (codes "after the value")
 
+-- The text of a line: the name of its part, a separator, and its value.
 abbrev pub told_text : Line → Option (List ℕ)
 told_text line = Some (title_text line.label ++ separator_text line.label line.kind) ++? kind_text line.kind
 
@@ -73,7 +74,8 @@ IsMembers (MoreElements n) members = members ≡ codes ",\"more\":" ++ decimal n
 IsMembers (Refused x) members = members ≡ codes ",\"expected\":\"" ++ (expected_text x ++ codes "\"")
 IsMembers AfterValue members = members ≡ codes ",\"rest\":true"
 
--- The row of bytes at this offset, whose name is the key: the bytes, the member of a path, and the members that say what the bytes are.
+-- The row of bytes at an offset: the offset as the member `key`, the bytes, the member of a path, and the members that say what the bytes
+-- are.
 abbrev pub object_text : List ℕ → ℕ → List ℕ → List ℕ → List ℕ → List ℕ
 object_text key at bytes field members =
     (codes "{\"" ++ (key ++ (codes "\":" ++ (decimal (offset at) ++ codes ",\"bytes\":\""))))

@@ -10,8 +10,8 @@ use pcard_print::{Notation, PrintError};
 use std::alloc::Global;
 use std::io::Write;
 
-/// Prints a row for each code byte of a frame, and for the zero that ends it, which `frame` is
-/// without. A row has its offset in the frame.
+/// Prints a row for each code byte of a frame, and for the zero that ends it. `frame` is the frame
+/// without that zero. A row has its offset in the frame.
 ///
 /// # Errors
 ///
@@ -82,8 +82,9 @@ fn layout_of(notation: Notation, frame: &[u8]) -> Layout
     }
 }
 
-/// Returns whether the data has a zero after the group of this code byte, which `after` bytes of the
-/// frame follow: another group follows, and this one isn't full.
+/// Returns whether the data has a zero after the group of this code byte. That is so if another
+/// group follows and this one isn't full. `after` is the number of the frame's bytes after the
+/// group.
 fn has_zero(code: u8, after: usize) -> bool
     ensures { result ≡ has_zero code after }
 {

@@ -1,4 +1,4 @@
-//! Laws of rows, as contracts of functions that do nothing.
+//! Laws of rows. Each law is the contract of a function that does nothing.
 
 ghost use Rattle.pcard_explain.specs.{HasCodesOfGroups, PartsAfterValue};
 
@@ -8,8 +8,8 @@ pub fn codes_of_groups()
     ensures { HasCodesOfGroups }
 {}
 
-/// The rows of a value have its encoding, and those of a checksum and of the bytes after it have the
-/// bytes that follow.
+/// The rows of a value have the bytes of its encoding. The rows of its checksum and of the
+/// remaining bytes have the bytes after it.
 pub fn parts_after_value()
     ensures { PartsAfterValue }
 {}

@@ -32,8 +32,8 @@ pub(crate) struct Layout {
     pub all: bool,
 }
 
-/// Returns the layout of the rows of lines. Their offsets have as many digits as the offset after
-/// the last line.
+/// Returns the layout of the rows of lines. All offsets have the number of digits of the greatest
+/// one, that after the last line.
 pub(crate) fn layout_of(notation: Notation, all: bool, lines: &[Line<'_>]) -> Layout
     ensures { result ≡ rows_layout notation all lines.now }
 {
@@ -66,8 +66,8 @@ pub(crate) fn offset_size(last: usize) -> usize
     }
 }
 
-/// Prints a row: the offset, the bytes, and a text that is indented by the depth. Unless nothing is
-/// cut, the row has at most 80 columns.
+/// Prints a row: the offset, the bytes, and a text that is indented by the depth. A row that may be
+/// cut has at most 80 columns.
 pub(crate) fn print_row<W: Write>(
     layout: Layout,
     at: u64,
@@ -152,8 +152,8 @@ fn print_blanks<W: Write>(count: usize, output: &mut W) -> io::Result<()>
     output.write_all(shown)
 }
 
-/// Prints the text of a row and ends it. Of a text of more bytes than `room`, prints the first ones
-/// and `..`, unless nothing is cut.
+/// Prints the text of a row and ends the row. If rows may be cut, a text of more bytes than `room`
+/// is cut, and ends with `..`.
 fn print_cut<W: Write>(layout: Layout, text: &str, room: usize, output: &mut W) -> io::Result<()>
     ensures { OnOk result ((shown : List ℕ) × IsCut layout text.now shown
         × (layout.all ≡ false → 2 ≤ room → length shown ≤ room)

@@ -1,4 +1,4 @@
-//! Rows that are no part of a value: [`Note`].
+//! Rows of bytes that are no part of a value: [`Note`].
 
 ghost use Rattle.std.specs.Prelude.{◌≡◌, ◌≢◌, OnOk, IfErr, IfOk, string_bytes};
 ghost use Rattle.pcard_explain.specs.{NoJson, PrintsNote, code_text, key_text, note_members};

@@ -16,7 +16,7 @@ use postcard_schema::Path;
 use std::alloc::Global;
 use std::io::Write;
 
-/// The most elements of a list that have rows of their own in text, unless nothing is cut.
+/// The most elements of a list that have rows of their own, in rows of text that may be cut.
 pub const ELEMENTS: u64 = 16;
 
 /// The checksum after a message.
@@ -29,11 +29,11 @@ pub struct Trailer<'a> {
 }
 
 /// Prints the rows of an explanation, one for each line of the value. If there is a trailer, a row
-/// for the checksum follows. If bytes are left, a row for them follows. The checksum's row has
-/// fewer bytes if the bytes end before.
+/// for the checksum follows. It is shorter if the bytes end within the checksum. If bytes remain, a
+/// row for them follows.
 ///
-/// A row of text has at most 80 columns and at most 8 bytes, unless `all` is asked for. What is cut
-/// ends with `..`. Nothing of a row of JSON is cut.
+/// A row of text has at most 80 columns and at most 8 bytes. What is cut ends with `..`. With `all`
+/// nothing is cut, and no row of JSON is cut.
 ///
 /// # Errors
 ///

@@ -1,4 +1,4 @@
-//! What a line of an explanation says of its bytes: [`Told`].
+//! The text of a line of an explanation: [`Told`].
 
 ghost use Rattle.std.specs.Prelude.{◌≡◌, Some};
 ghost use Rattle.pcard_explain.specs.{DisplaysOnOk, WritesOnOk, elements_text, expected_text};
@@ -11,7 +11,7 @@ use postcard_value::Value;
 use postcard_value_text::Shown;
 use std::fmt;
 
-/// What a line says of its bytes: what the part is called, and its value.
+/// The text of a line. It is printed as the name of the part, and then its value.
 #[derive(Clone, Copy)]
 pub(crate) struct Told<'a>(pub &'a Line<'a>);
 
@@ -37,7 +37,7 @@ fn show_title<W: fmt::Write>(label: Label<'_>, f: &mut fmt::Formatter<W>) -> fmt
     }
 }
 
-/// Returns what is printed between what a part is called and its value.
+/// Returns what is printed between the name of a part and its value.
 fn separator(label: Label<'_>, kind: &LineKind<'_>) -> &'static str
     ensures { result.now ≡ separator_text label.entry kind.now }
 {

@@ -1,4 +1,4 @@
--- Lemmas on what is found in the data of a message, in a frame, and at the front of bytes.
+-- Lemmas on the answers to the data of a message, to a frame, and to the first message or frame of some bytes.
 use Rattle.std.proofs.Common.{◌≡◌, inl, inr, refl, sym, ap, subst, ◌∙◌, ℕ, ◌+◌, ◌-◌, ◌<◌, ◌≤◌, Bool, true, false, eqb, arith, List, [], ◌∷◌, ◌++◌, length, length-append, take, drop, take_all, Option, None, Some, ne_eqb}
 use Rattle.std.proofs.lemmas.List.{append_assoc, take-append-le}
 use Rattle.postcard_cobs.specs.Groups.{EndsFrame, Groups, NoZero, before_zero}
@@ -14,7 +14,7 @@ use Rattle.pcard_message.specs.Reading.{IsBadData, IsBehind, IsContentAnswer, Is
 
 -- ---- the data of a message
 
--- The bytes before the last are those of the front.
+-- The bytes before the last ones are the prefix.
 front_of : (bytes front rest : List ℕ) → bytes ≡ front ++ rest → take (length bytes - length rest) bytes ≡ front
 front_of bytes front rest e =
     let n : length bytes - length rest ≡ length front = omega (arith, ap length e, length-append front rest) in
@@ -86,7 +86,7 @@ value_next s bytes rest v is = subst (λ (t : List ℕ). ReadsData s bytes v t) 
 
 -- ---- a frame
 
--- The frame at the front of bytes without a zero is all of them.
+-- The frame at the start of bytes without a zero is all of them.
 before_zero_all : (f : List ℕ) → NoZero f → before_zero f ≡ f
 before_zero_all [] z = refl
 before_zero_all (b ∷ f) z = let e : eqb b 0 ≡ false = ne_eqb b 0 (λ e. omega (arith, z.0)) in
@@ -96,7 +96,7 @@ take_front_of : (xs ys : List ℕ) → take (length xs) (xs ++ ys) ≡ xs
 take_front_of [] ys = refl
 take_front_of (x ∷ xs) ys = ap (λ (t : List ℕ). x ∷ t) (take_front_of xs ys)
 
--- The front of a buffer after decoding a frame without a zero in place is its data.
+-- The prefix of a buffer after decoding a frame without a zero in place is its data.
 pub decoded : (frame new : List ℕ) (n : ℕ) → NoZero frame → LeavesData frame new n → Groups frame (take n new)
 decoded frame new n free (d, groups, length_is, is) =
     let whole = rw (before_zero_all frame free) at groups in

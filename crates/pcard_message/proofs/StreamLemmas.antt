@@ -102,7 +102,7 @@ after_none s longest new held limit empty skipping start count = record {
 
 module _ (s : Format) (longest : ℕ) (given : List ℕ) (before after : Stream) (first old new : Option (List ℕ)) (was : IsAfter s longest given before first old)
     (limit : after.longest ≡ before.longest) where
-  -- The lines of the frames, without one of the rest.
+  -- The lines of the frames, without a line of the bytes after the last frame.
   frames_printed : before.skipping ≡ false → PrintsLinesOf s 0 was.lines.answered first old
   frames_printed off = lines_followed s 0 was.lines.answered first was.lines.mid old was.lines.frames (was.lines.last.fits (was.held off).1)
 
@@ -189,7 +189,7 @@ module _ (s : Format) (longest : ℕ) (given : List ℕ) (before after : Stream)
         }
 
   module _ (start : after.start ≡ after.count) (count : after.count ≡ min (before.count + 1) (2 ^ 64 - 1)) (holds : after.held.items ≡ []) (ends : after.skipping ≡ false) where
-    -- A frame ends whose line is printed.
+    -- The state after the zero that ends a frame, once the line of the frame's answer is printed.
     answered_by : (a : Answer) (mid : Option (List ℕ)) → IsAnswerTo s longest was.lines.rest a → PrintsLinesOf s 0 was.lines.answered first mid
         → PrintsLine s (offset (length (bytes_of was.lines.answered))) a mid new → IsAfter s longest (given ++ 0 ∷ []) after first new
     answered_by a mid is frames line =

@@ -24,16 +24,16 @@ use Rattle.pcard_message.specs.declared.failure.Failure.{Failure}
 use Rattle.pcard_message.specs.declared.failure.Failure.TheVariants.{BadText, BadJson, Library, Output}
 use Rattle.pcard_message.specs.declared.format.Format.{Format}
 
--- The text spells the value, as JSON or not.
+-- The text denotes the value, as JSON or not.
 abbrev pub SpellsIn : Notation → Schema → Value → List ℕ → Type 0
 SpellsIn Text schema v text = SpellsValue schema v text
 SpellsIn Json schema v text = IsJsonText (layout_of schema) (tree v) text
 
--- The text spells the value, which is one of the format's type.
+-- The text denotes the value, which is one of the format's type.
 abbrev pub IsValueOf : Format → List ℕ → Value → Type 0
 IsValueOf format text v = SpellsIn format.notation format.schema v text × reads (type_of format.schema) (tree v)
 
--- The text spells no value of the format's type.
+-- The text denotes no value of the format's type.
 abbrev pub HasNoValue : Format → List ℕ → Type 0
 HasNoValue format text = (v : Value) → IsValueOf format text v → ⊥
 
@@ -69,7 +69,7 @@ abbrev pub written : Bool → List ℕ → List ℕ
 written true bytes = bytes
 written false bytes = encode_lower bytes ++ 10 ∷ []
 
--- The bytes of the value that the text spells are printed.
+-- The bytes of the value that the text denotes are printed.
 pub record PrintsEncoded (format : Format) (raw : Bool) (text : List ℕ) (old new : Option (List ℕ)) : Type 0 where
   pub value_of : Value
   pub is : IsValueOf format text value_of
@@ -77,7 +77,7 @@ pub record PrintsEncoded (format : Format) (raw : Bool) (text : List ℕ) (old n
   pub packed : IsPacked format value_of out
   pub printed : Appends old new (written raw out)
 
--- The text spells a value whose encoding has more than 4,096 bytes.
+-- The text denotes a value whose encoding has more than 4,096 bytes.
 abbrev pub HasLongEncoding : Format → List ℕ → Type 0
 HasLongEncoding format text = (v : Value) × IsValueOf format text v × (4096 < length (canonical (tree v)))
 

@@ -20,6 +20,7 @@ abbrev pub IsNamed : Option (List ℕ) → Option Checksum → Type 0
 IsNamed None checksum = checksum ≡ None
 IsNamed (Some name) checksum = (c : Checksum) × (checksum ≡ Some c) × (name ≡ checksum_name c)
 
+-- JSON if the option is given, and else text.
 abbrev pub notation_of : Bool → Notation
 notation_of true = Json
 notation_of false = Text
@@ -35,6 +36,7 @@ pub record IsFormat (given : Given) (kind : List ℕ) (format : Format) : Type 0
 abbrev pub IsUnnamed : List ℕ → Type 0
 IsUnnamed name = (c : Checksum) → name ≢ checksum_name c
 
+-- The failure for a checksum that no algorithm has as its name.
 abbrev pub IsNameFailure : List ℕ → Failure → Type 0
 IsNameFailure name (UnknownChecksum word) = (word.now ≡ name) × IsUnnamed name
 IsNameFailure name failure = ⊥

@@ -1,4 +1,4 @@
--- What is found at the front of bytes: the value of a message or a frame, or why there is none.
+-- The answer to the first message or frame of some bytes: the value of a message or a frame, or why there is none.
 use Rattle.std.specs.Prelude.{◌≡◌, ◌≢◌, ◌≤◌, ◌⊎◌, ℕ, ◌+◌, ◌-◌, Bool, true, false, List, [], ◌∷◌, length, Option, None, Some}
 use Rattle.std.specs.Io.KnownBytes.{Appends}
 use Rattle.postcard_wire.specs.declared.error.Error.{Error}
@@ -24,7 +24,7 @@ use Rattle.pcard_message.specs.declared.format.Format.{Format}
 
 -- ---- the data of a message
 
--- A front of the bytes spells a tree of the schema, the value has this tree, and `rest` is the bytes after the front.
+-- A prefix of the bytes encodes a tree of the schema, the value has this tree, and `rest` is the bytes after the prefix.
 abbrev pub ReadsValue : Schema → List ℕ → Value → List ℕ → Type 0
 ReadsValue schema bytes v rest = ReadsFront (reads (type_of schema)) IsTree bytes v rest
 
@@ -33,7 +33,7 @@ abbrev pub IsBehind : Option Checksum → List ℕ → List ℕ → List ℕ →
 IsBehind None message behind rest = rest ≡ behind
 IsBehind (Some c) message behind rest = IsTrailer c message behind rest
 
--- There is to be a checksum behind the message, and its bytes don't follow it.
+-- The format has a checksum, and its bytes don't follow the message.
 abbrev pub LacksChecksum : Option Checksum → List ℕ → List ℕ → Type 0
 LacksChecksum None message behind = ⊥
 LacksChecksum (Some c) message behind = (e : Error) × HasNoTrailer c message behind e
@@ -43,7 +43,7 @@ abbrev pub ReadsData : Format → List ℕ → Value → List ℕ → Type 0
 ReadsData format bytes v rest =
     (behind : List ℕ) × (is : ReadsValue format.schema bytes v behind) × IsBehind format.checksum is.front behind rest
 
--- No front of the bytes spells a value: the part at which reading stops, where it begins, and the error of reading it.
+-- No prefix of the bytes encodes a value: the part at which reading stops, where it begins, and the error of reading it.
 pub record IsUnread (schema : Schema) (bytes : List ℕ) (w : Why) : Type 0 where
   pub no_value : (v : Value) (rest : List ℕ) → ReadsValue schema bytes v rest → ⊥
   pub error : Error
@@ -55,7 +55,7 @@ pub record IsUnread (schema : Schema) (bytes : List ℕ) (w : Why) : Type 0 wher
   pub within : w.offset ≤ length bytes
   pub path_is : w.path ≡ path_text path
 
--- A front of the bytes is the message of a value, and its checksum doesn't follow it, where it is to begin.
+-- A prefix of the bytes is the message of a value, and its checksum doesn't follow. The offset is that at which the checksum should begin.
 pub record IsUnchecked (format : Format) (bytes : List ℕ) (w : Why) : Type 0 where
   pub value : Value
   pub behind : List ℕ
@@ -93,6 +93,7 @@ whole reason bytes = record { offset = 0; reason = reason; path = []; shown = So
 abbrev pub no_cobs : List ℕ → Why
 no_cobs frame = whole NoCobs frame
 
+-- Why bytes without a zero are refused: no zero ends the frame.
 abbrev pub no_zero : List ℕ → Why
 no_zero bytes = whole NoZeroEnds bytes
 
@@ -110,15 +111,18 @@ abbrev pub IsNextData : Format → List ℕ → Answer → List ℕ → Type 0
 IsNextData format bytes (value v rest) after = (rest ≡ []) × ReadsData format bytes v after
 IsNextData format bytes (refused w) after = (after ≡ bytes) × IsBadData format bytes w
 
+-- The answer to the first frame of the bytes, and the bytes after it.
 abbrev pub IsNextFrame : Format → List ℕ → Answer → List ℕ → Type 0
 IsNextFrame format bytes answer after =
     ((frame : List ℕ) × EndsFrame bytes frame after × IsFrameAnswer format frame answer)
     ⊎ (NoZero bytes × (after ≡ bytes) × (answer ≡ refused (no_zero bytes)))
 
+-- The answer to the first frame or, without frames, to the first message.
 abbrev pub IsNextIn : Bool → Format → List ℕ → Answer → List ℕ → Type 0
 IsNextIn true format bytes answer after = IsNextFrame format bytes answer after
 IsNextIn false format bytes answer after = IsNextData format bytes answer after
 
+-- The answer to the first message or frame of the bytes in this format, and the bytes after it.
 abbrev pub IsNext : Format → List ℕ → Answer → List ℕ → Type 0
 IsNext format bytes answer after = IsNextIn format.framed format bytes answer after
 

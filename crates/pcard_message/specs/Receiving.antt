@@ -24,8 +24,8 @@ pub record IsAfter (format : Format) (longest : ℕ) (given : List ℕ) (s : Str
   pub held : s.skipping ≡ false → (s.held.items ≡ lines.rest) × (length lines.rest ≤ longest)
   pub over : s.skipping ≡ true → longest < length lines.rest
 
--- The piece takes the state `before` to `after`, and its lines are printed: whatever bytes were given before, with their lines printed, the
--- lines of these bytes and the piece are.
+-- The piece takes the state `before` to `after`, and its lines are printed. Let some bytes be given before, with their lines printed. Then
+-- the lines of these bytes and the piece together are printed.
 abbrev pub Continues : Format → Stream → List ℕ → Stream → Option (List ℕ) → Option (List ℕ) → Type 0
 Continues format before piece after old new =
     (longest : ℕ) (given : List ℕ) (first : Option (List ℕ)) → IsAfter format longest given before first old
@@ -43,7 +43,7 @@ pub record IsSame (before after : Stream) : Type 0 where
   pub start : after.start ≡ before.start
   pub count : after.count ≡ before.count
 
--- A read gave a piece of the input, whose lines are printed; `more` is whether it had a byte, and else the input is at its end.
+-- A read gave a piece of the input, whose lines are printed. `more` says whether the piece has a byte. If not, the input is at its end.
 pub record Reads (format : Format) (before after : Stream) (known left old new : Option (List ℕ)) (more : Bool) : Type 0 where
   pub piece : List ℕ
   pub reader : Consumes known left piece

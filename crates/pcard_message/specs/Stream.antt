@@ -43,12 +43,13 @@ PrintsLinesOf format before (a ∷ more) old new =
     (mid : Option (List ℕ)) × PrintsLine format (offset before) a.answer old mid
     × PrintsLinesOf format (before + length a.frame + 1) more mid new
 
--- The line of bytes after the last zero, before which there are `before` bytes, is printed: none, unless they are too long already.
+-- The line of bytes after the last zero, before which there are `before` bytes, is printed: one line if they are too long already, and else
+-- none.
 pub record PrintsRest (format : Format) (longest before : ℕ) (rest : List ℕ) (old new : Option (List ℕ)) : Type 0 where
   pub over : longest < length rest → PrintsLine format (offset before) (refused overfull) old new
   pub fits : length rest ≤ longest → Appends old new []
 
--- The bytes `given` are frames, each ended by a zero, and then a rest without a zero. The lines of the frames' answers, and that of the rest,
+-- The bytes `given` are frames, each ended by a zero, and then bytes without a zero. The lines of the frames' answers and of the last bytes
 -- are printed.
 pub record PrintsLines (format : Format) (longest : ℕ) (given : List ℕ) (old new : Option (List ℕ)) : Type 0 where
   pub answered : List Answered

@@ -12,8 +12,9 @@ use postcard_value::{RefusedPart, Value, refused_at, take_from_bytes};
 use postcard_wire::Error;
 use std::alloc::{AllocError, Global};
 
-/// Returns the value with which some data begins, and the bytes after it and its checksum, or why
-/// there is none. The offset of a refusal is counted from the first byte of the data.
+/// Returns the value with which some data begins, and the bytes after the value and its checksum.
+/// If there is no value, returns why. The offset of a refusal is counted from the first byte of the
+/// data.
 ///
 /// # Errors
 ///

@@ -54,7 +54,7 @@ pub fn decode<W: Write>(
     }
 }
 
-/// Prints the values of messages or frames one after another, until no byte is left.
+/// Prints the values of messages or frames in a row, until no byte is left.
 ///
 /// # Errors
 ///
@@ -82,8 +82,8 @@ pub fn decode_all<W: Write>(
     Ok(())
 }
 
-/// Returns whether messages may have no bytes: without a frame and a checksum, for a type without
-/// bytes.
+/// Returns whether messages may have no bytes. That is so without a frame and a checksum, if the
+/// type may have no bytes.
 fn lacks_bytes(format: &Format) -> bool
     ensures lacks { IsTrue result → LacksBytes format.now }
     ensures has { IsFalse result → LacksBytes format.now → ⊥ }
@@ -91,8 +91,8 @@ fn lacks_bytes(format: &Format) -> bool
     !format.framed && format.checksum.is_none() && !format.schema.has_bytes()
 }
 
-/// Prints the line of the value of the first message or frame of `rest`, with which `all` ends, and
-/// returns the bytes after it. Fails as [`decode`] does.
+/// Prints the line of the first message or frame of `rest`, the end of `all`, and returns the bytes
+/// after it. Fails as [`decode`] does.
 fn print_next<'a, W: Write>(
     alloc: Global,
     format: &'a Format,

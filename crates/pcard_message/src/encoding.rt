@@ -29,14 +29,14 @@ const BODY: usize = ENCODING + 16;
 /// The greatest size in bytes of a frame, its zero included.
 const FRAME: usize = BODY + BODY / 254 + 2;
 
-/// Encodes the value of a text, and prints it in the format: the encoding, its checksum, and both
-/// in a frame. They are printed as hexadecimal on a line, or with `raw` as bytes and nothing after
-/// them.
+/// Encodes the value of a text, and prints its message in the format: the encoding and its
+/// checksum, both in a frame if the format has one. It is printed as a line of hexadecimal digits.
+/// With `raw` it is printed as bytes alone.
 ///
 /// # Errors
 ///
-/// Fails as [`value_of`] does, with `Library(SerializeBufferFull)` if the encoding has more than
-/// 4,096 bytes, and with `Output`.
+/// Fails as [`value_of`] does. Fails with `Library(SerializeBufferFull)` if the encoding has more
+/// than 4,096 bytes, and with `Output` if the output can't be written.
 pub fn encode<'a, W: Write>(
     alloc: Global,
     format: &'a Format,
@@ -59,7 +59,7 @@ pub fn encode<'a, W: Write>(
     Ok(())
 }
 
-/// Returns the value of a text: of JSON if that is the format's notation.
+/// Returns the value of a text. The text is JSON if that is the format's notation.
 ///
 /// # Errors
 ///
@@ -102,7 +102,7 @@ pub fn value_of<'a>(alloc: Global, format: &'a Format, text: &str) -> Result<Val
     }
 }
 
-/// Returns the encoding of a value, and its checksum after it.
+/// Returns the encoding of a value, followed by its checksum.
 fn body_of(checksum: Option<Checksum>, value: &Value) -> WireResult<ArrayVec<u8, BODY>>
     ensures body { IfOk result
         (λ body. IsBody checksum (canonical (tree value.now)) body.items) }

@@ -17,7 +17,7 @@ use std::{fmt, io};
 /// Why a call fails. It is printed as the last line of the call.
 #[derive(Debug, Drop)]
 pub enum Failure<'a> {
-    /// The words are no call.
+    /// The arguments are invalid.
     Usage,
     /// TYPE is a misspelled expression.
     BadType(ExpressionError),
@@ -49,8 +49,8 @@ pub enum Failure<'a> {
     BadHexAt(usize),
     /// No checksum has this name.
     UnknownChecksum(&'a str),
-    /// The library fails to encode or decode a value, or an allocation fails other than those of
-    /// [`OutOfMemory`](Failure::OutOfMemory).
+    /// The library fails to encode or decode a value, or an allocation fails. Allocations of
+    /// `frames` have [`OutOfMemory`](Failure::OutOfMemory) instead.
     Library(Error),
     /// The bytes are refused, and a line that says so is printed.
     Refused,
@@ -128,7 +128,8 @@ impl fmt::Display for Failure<'_> {
     }
 }
 
-/// Returns what to print after a problem of a type expression, if it doesn't say what would do.
+/// Returns a hint to print after a problem of a type expression, or nothing if the problem already
+/// says what is expected.
 fn hint_of(problem: Problem) -> &'static str
     ensures { result.now ≡ hint_text problem }
 {

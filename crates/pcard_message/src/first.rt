@@ -10,8 +10,8 @@ use pcard_print::{Answer, Reason};
 use postcard_cobs::frame_len;
 use std::alloc::{AllocError, Global};
 
-/// Returns what the first message or frame of some bytes is, and the bytes after it. Bytes that are
-/// refused without a frame, or that no zero ends, are all left.
+/// Returns the answer to the first message or frame of some bytes, and the bytes after it. If a
+/// message without a frame is refused, or no zero ends the frame, all bytes are left.
 ///
 /// `room` holds the data of a frame of several groups.
 ///
@@ -53,7 +53,7 @@ fn cut_frame(bytes: &[u8]) -> Option<(&[u8], &[u8])>
     Some((&bytes[..end], &bytes[end + 1..]))
 }
 
-/// Returns what the first message of some bytes is, and how many bytes it takes.
+/// Returns the answer to the first message of some bytes, and the number of its bytes.
 fn next_message<'a>(
     alloc: Global,
     format: &'a Format,

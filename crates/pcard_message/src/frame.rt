@@ -11,8 +11,9 @@ use postcard_cobs::decode_in_place;
 use postcard_schema::Path;
 use std::alloc::{AllocError, Global};
 
-/// Returns the value with which the data of a frame begins, and the bytes of the data after it and
-/// its checksum, or why there is none. A refusal is at the frame's first byte.
+/// Returns the value with which a frame's data begins, and the bytes of the data after the value
+/// and its checksum. If there is no value, returns why. The offset of a refusal is that of the
+/// frame's first byte.
 ///
 /// The data of a frame of several groups is put into `room`.
 ///
@@ -55,8 +56,8 @@ pub fn data_of<'a>(frame: &'a [u8], room: &'a mut Vec<u8>) -> Result<Option<&'a 
     Ok(unpack(frame, room))
 }
 
-/// Returns the data of a frame of one group, which lies behind its code byte as it is, or `None` if
-/// the frame has several groups or none.
+/// Returns the data of a frame of one group: the bytes after its code byte. Returns `None` if the
+/// frame has several groups or none.
 fn only_group(frame: &[u8]) -> Option<&[u8]>
     ensures one { IfSome result (λ content. NoZero frame.now → Groups frame.now content.now) }
     ensures none { IfNone result ((content : List ℕ)
@@ -71,7 +72,7 @@ fn only_group(frame: &[u8]) -> Option<&[u8]>
     Some(content)
 }
 
-/// Returns the data of a frame, of which `buffer` is a copy, in which it is decoded. Returns `None`
+/// Returns the data of a frame, decoded in `buffer`, which is a copy of the frame. Returns `None`
 /// if it is no COBS frame.
 fn unpack<'a>(frame: &[u8], buffer: &'a mut [u8]) -> Option<&'a [u8]>
     requires { buffer.old ≡ frame.now }

@@ -1,5 +1,5 @@
-//! Messages of a type that a call gives as an expression: how they are written ([`Format`]), made
-//! ([`encode`]) and read ([`next`]).
+//! Messages of a type that is given as an expression: their format ([`Format`]), encoding
+//! ([`encode`]) and decoding ([`next`]).
 #![tactic(auto)]
 
 pub mod contents;

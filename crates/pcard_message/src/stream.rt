@@ -68,7 +68,7 @@ pub fn print_frames<R: Reader, W: Write>(
 ///
 /// # Errors
 ///
-/// Fails as [`print_frames`] does, but for reads.
+/// Fails as [`print_frames`] does. No read can fail.
 pub fn print_frames_of<W: Write>(
     alloc: Global,
     format: &Format,
@@ -90,7 +90,8 @@ pub fn print_frames_of<W: Write>(
 struct Stream {
     /// The greatest length of a frame, its zero included.
     longest: usize,
-    /// The bytes so far of the frame that hasn't ended, but none while it is being skipped.
+    /// The bytes so far of the frame that hasn't ended. It is empty while that frame is being
+    /// skipped.
     held: Vec<u8>,
     /// Whether that frame is being skipped, since it is too long. Its line is printed.
     skipping: bool,
@@ -175,9 +176,9 @@ impl Stream {
         Ok(())
     }
 
-    /// Adds bytes without a zero to those held of their frame. If it becomes too long, prints its
-    /// line, holds nothing, and drops what comes of it from then on. Fails with `OutOfMemory` if
-    /// they can't be held, and with `Output` if the line can't be written.
+    /// Adds bytes without a zero to the held bytes of their frame. If the frame becomes too long,
+    /// prints its line, and skips the remaining bytes of the frame. Fails with `OutOfMemory` if the
+    /// bytes can't be held, and with `Output` if the line can't be written.
     fn hold<W: Write>(
         &mut self,
         alloc: Global,
@@ -205,7 +206,8 @@ impl Stream {
         }
     }
 
-    /// Takes the zero that ends a frame, and prints the frame's line, unless it is printed.
+    /// Takes the zero that ends a frame, and prints the frame's line. The line of a skipped frame
+    /// is printed already.
     fn end_frame<W: Write>(
         &mut self,
         alloc: Global,
@@ -311,8 +313,8 @@ fn print_overfull<W: Write>(
     }
 }
 
-/// Returns the failure of `frames` for one of a line. Unlike `dec`, it ends with status 3 if an
-/// allocation fails.
+/// Returns the failure of `frames` for a line that isn't printed. Unlike `dec`, it ends with status
+/// 3 if an allocation fails.
 fn failure_of(error: PrintError) -> Failure<'static>
     ensures { result ≡ line_failure error }
 {

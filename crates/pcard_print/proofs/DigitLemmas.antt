@@ -22,7 +22,7 @@ pub appends-piece : (a b c : Option (List ℕ)) (xs ys : List ℕ) → Appends a
 appends-piece a b c xs ys first second =
     rw (encode_with-append lower_digits xs ys) (Appends-trans a b c (encode_lower xs) (encode_lower ys) first second)
 
--- A list that is cut into a front done and a rest is cut further by cutting the rest.
+-- Let a list be cut into a prefix and the remaining part. Cutting the remaining part further gives a cut of the whole list.
 pub cut_again : (xs done rest front back : List ℕ) (n : ℕ) → xs ≡ done ++ rest → front ≡ take n rest → back ≡ drop n rest
     → xs ≡ done ++ front ++ back
 cut_again xs done rest front back n whole first second =

@@ -42,6 +42,7 @@ error_words DeserializeBadOption = codes "bad option"
 error_words SerdeDeCustom = codes "unknown variant"
 error_words e = codes "refused"
 
+-- The words of a reason.
 abbrev pub reason_text : Reason → List ℕ
 reason_text (Unread e) = error_words e
 reason_text BadChecksum = codes "bad checksum"
@@ -49,7 +50,7 @@ reason_text NoCobs = codes "no COBS frame"
 reason_text NoZero = codes "no zero ends the frame"
 reason_text Overfull = codes "overfull"
 
--- The offset that is printed: n, unless it is beyond 64 bits.
+-- The offset that is printed: n, or the greatest number of 64 bits if n is greater.
 abbrev pub offset : ℕ → ℕ
 offset n = min n (2 ^ 64 - 1)
 
@@ -83,6 +84,7 @@ shown_name reason = codes "data"
 abbrev pub hex_member : List ℕ → List ℕ → List ℕ
 hex_member name bytes = codes ",\"" ++ (name ++ (codes "\":\"" ++ (encode_lower bytes ++ codes "\"")))
 
+-- The member with the bytes that are refused, if they are shown.
 abbrev pub shown_member : Reason → Option (List ℕ) → List ℕ
 shown_member reason None = []
 shown_member reason (Some bytes) = hex_member (shown_name reason) bytes
@@ -104,6 +106,7 @@ refusal_line Json start w = refusal_json (offset (start + w.offset)) w
 abbrev pub noun_of : ℕ → List ℕ
 noun_of n = if nat_eq n 1 then codes "byte" else codes "bytes"
 
+-- The words for the bytes of the data after a value. Nothing if there are none.
 abbrev pub more_text : List ℕ → List ℕ
 more_text [] = []
 more_text (b ∷ rest) =
@@ -131,7 +134,7 @@ abbrev pub bytes_member : List ℕ → List ℕ → List ℕ
 bytes_member name [] = []
 bytes_member name (b ∷ bytes) = hex_member name (b ∷ bytes)
 
--- The line of a value's JSON: the offset at which the value begins, the JSON, the bytes of the data after it, and those after the frame.
+-- The line of a value's JSON: the offset of the value, the JSON, the bytes of the data after it, and the bytes after the frame.
 abbrev pub value_json : ℕ → List ℕ → List ℕ → List ℕ → List ℕ
 value_json at text rest after =
     (codes "{\"at\":" ++ (decimal at ++ (codes ",\"value\":" ++ text)))
@@ -145,6 +148,7 @@ pub record PrintsJson (schema : Schema) (at : ℕ) (v : Value) (rest after : Lis
 
 -- ---- answers
 
+-- The line of a value is printed, as text or as JSON.
 abbrev pub PrintsValue : Notation → Schema → ℕ → Value → List ℕ → Option (List ℕ) → Option (List ℕ) → Type 0
 PrintsValue Text schema at v rest old new = Prints (value_text schema v rest) old new
 PrintsValue Json schema at v rest old new = PrintsJson schema at v rest [] old new
@@ -167,7 +171,7 @@ PrintsFirst Json false schema v rest after old new = PrintsJson schema 0 v after
 
 -- ---- failures
 
--- The failures of printing the line of a refusal. But for one of the output nothing was printed.
+-- The failures of printing the line of a refusal. If the output didn't fail, nothing was printed.
 abbrev pub RefusalFails : Notation → Option (List ℕ) → Option (List ℕ) → PrintError → Type 0
 RefusalFails notation old new Output = ⊤
 RefusalFails notation old new OutOfMemory = (notation ≡ Json) × (new ≡ old)
@@ -178,6 +182,7 @@ abbrev pub ValueFails : Notation → Option (List ℕ) → Option (List ℕ) →
 ValueFails notation old new Output = ⊤
 ValueFails notation old new e = (notation ≡ Json) × (new ≡ old)
 
+-- The failures of printing the line of an answer.
 abbrev pub AnswerFails : Notation → Answer → Option (List ℕ) → Option (List ℕ) → PrintError → Type 0
 AnswerFails notation (value v rest) old new e = ValueFails notation old new e
 AnswerFails notation (refused w) old new e = RefusalFails notation old new e

@@ -1,4 +1,4 @@
-//! What is found in bytes, and its line: [`Answer`].
+//! The result of reading a message or a frame, and its line: [`Answer`].
 
 ghost use Rattle.std.specs.Prelude.{IfErr, OnOk};
 ghost use Rattle.pcard_print.specs.{AnswerFails, PrintsAnswer, plain_answer};
@@ -13,7 +13,7 @@ use postcard_value::Value;
 use std::alloc::Global;
 use std::io::Write;
 
-/// What is found in the bytes of a message or a frame.
+/// The result of reading the bytes of a message or a frame.
 #[derive(Debug, Drop)]
 pub enum Answer<'a> {
     /// A value, and the bytes of the data after it.

@@ -6,12 +6,12 @@ ghost use Rattle.pcard_print.specs.declared.error.PrintError.TheVariants.{Output
 use std::alloc::{AllocError, AllocFailed};
 use std::io;
 
-/// Why a line isn't printed. At the last two nothing of it is printed.
+/// Why a line isn't printed. With the last two nothing of it is printed.
 #[derive(Clone, Copy, Debug, PartialEq, Eq)]
 pub enum PrintError {
     /// The output can't be written.
     Output,
-    /// An allocation failed. Text needs none.
+    /// An allocation failed. Lines of text need no allocation.
     OutOfMemory,
     /// The value has no JSON.
     NoJson,

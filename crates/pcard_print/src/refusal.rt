@@ -64,7 +64,7 @@ fn words_of(error: &Error) -> &'static str
     }
 }
 
-/// Says where and why bytes have no value.
+/// Where and why bytes have no value.
 #[derive(Debug, Drop)]
 pub struct Refusal<'a> {
     /// The offset of the part that can't be read, or of the frame.

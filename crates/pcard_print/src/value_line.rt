@@ -20,13 +20,13 @@ use std::{fmt, io};
 /// The most bytes of a text that is gathered before it is written: more than most values have.
 const LINE: usize = 512;
 
-/// Prints the line of a value whose message begins at the offset `at`, and of the bytes `rest` of
-/// its data after it, if there are some.
+/// Prints the line of a value whose message begins at the offset `at`. The line also has the bytes
+/// `rest`, those of the data after the value, if there are some.
 ///
 /// # Errors
 ///
-/// Fails with `Output` if the output can't be written. As JSON fails before anything is printed
-/// with `OutOfMemory` if an allocation fails, and with `NoJson` if the value has none.
+/// Fails with `Output` if the output can't be written. As JSON fails with `OutOfMemory` if an
+/// allocation fails, and with `NoJson` if the value has no JSON. Nothing is printed then.
 pub fn print_value<W: Write>(
     alloc: Global,
     notation: Notation,
@@ -48,9 +48,9 @@ pub fn print_value<W: Write>(
     Ok(())
 }
 
-/// Prints a value that is the only one to be printed, the bytes `rest` of its data after it, and
-/// the bytes `after` its message or frame. As text these are a second line. As JSON they are the
-/// member `after` if the message is framed, and else `rest`. Fails as [`print_value`] does.
+/// Prints the only value of a call, the bytes `rest` of its data after it, and the bytes `after`
+/// its message or frame. As text the latter two are a second line. As JSON they are the member
+/// `after` if the message is framed, and else `rest`. Fails as [`print_value`] does.
 pub fn print_first<W: Write>(
     alloc: Global,
     notation: Notation,
@@ -103,9 +103,9 @@ fn print_text<W: Write>(
     output.write_all(b"\n")
 }
 
-/// Prints the text of a value. One of at most [`LINE`] bytes is gathered first and then written in
-/// one piece, which is quicker than a write to the output for each part of it. A longer one is
-/// begun anew.
+/// Prints the text of a value. A text of at most [`LINE`] bytes is gathered first and written in
+/// one piece, which is quicker than a write for each part. A longer text is printed from its
+/// beginning, part by part.
 fn print_gathered<W: Write>(shown: Shown<'_>, output: &mut W) -> io::Result<()>
     ensures { OnOk result (Prints (text (layout_of shown.entry.schema.now)
         (tree shown.entry.value.now)) (W.contents output.old) (W.contents output.new)) }

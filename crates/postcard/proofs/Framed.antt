@@ -1,5 +1,4 @@
--- A frame in a storage: the room that it has from the start, and what the front of a buffer decodes
--- to.
+-- A frame in a storage: the room that it has from the start, and what the start of a buffer decodes to.
 use Rattle.std.proofs.Common.{◌≡◌, ℕ, ◌+◌, ◌-◌, ◌^◌, ◌≤◌, List, [], length, take, drop, Bool}
 use Rattle.std.proofs.Common.{◌∙◌, subst, arith}
 use Rattle.std.proofs.Math.Seq.{take-append_seam}
@@ -35,7 +34,7 @@ data_room {free = free} s xs holds keeps few room =
       few = few;
     }
 
--- The front of a buffer that a made frame fills, as many bytes as counted, decodes to the data.
+-- If a buffer begins with a made frame, its first `count` bytes, the length of the frame, decode to the data.
 pub front_decodes : (count : ℕ) (all old d : List ℕ) → count ≡ length (made d)
     → Fills (made d) old all → DecodesTo (take count all) d
 front_decodes count all old d counts fills =

@@ -1,5 +1,5 @@
--- What `to_slice` and `to_slice_cobs` say of their buffer and their result, from what an attempt to write into it and
--- `lend_front` say.
+-- The clauses of `to_slice` and `to_slice_cobs` on their buffer and their result. They follow from the clauses of the attempt to write and
+-- of `lend_front`.
 use Rattle.std.proofs.Common.{◌≡◌, ◌≤◌, ◌<◌, ◌⊎◌, ℕ, List, [], ◌∷◌, length, take, drop, ◌++◌, refl, sym, ap, subst, ◌∙◌, Ok, Err, IfOk}
 use Rattle.std.proofs.Math.Seq.{drop-append_seam, take-append_seam}
 use Rattle.std.proofs.Flags.{never_true}
@@ -36,25 +36,24 @@ pub is_false : (b : Bool) → T (not b) → b ≡ false
 is_false true t = absurd t
 is_false false t = refl
 
--- If bs was written over the front of xs, the front of length bs is bs.
+-- If bs was written over the first bytes of xs, the first `length bs` bytes are bs.
 in_front : (n : ℕ) (bs xs all : List ℕ) → n ≡ length bs → all ≡ bs ++ drop (length bs) xs → take n all ≡ bs
 in_front n bs xs all long is = (λ i. take (long i) (is i)) ∙ take-append_seam bs (drop (length bs) xs)
 
--- Nothing is said of what is left after a failure.
+-- After a failure nothing is claimed of the buffer.
 pub none_left : (r : Result (MutBor (List ℕ)) Error) → OnErr r ⊤
 none_left (Ok x) = tt
 none_left (Err e) = tt
 
 module _ {V : Type 0} (s : Shape V) (v : V) (xs : List ℕ) (left : List ℕ → Type 0) (old : List ℕ) (d : Attempt) (r : Result (MutBor (List ℕ)) Error) (done : IsAttempt s v xs left old d) (cut : LendsAttempt d r) where
-  -- What the caller writes through the front is then at the front of the buffer, before the old
-  -- bytes.
+  -- What the caller writes through the slice returned is then at the start of the buffer, before the old bytes.
   pub follows_front : (front : List ℕ) → IsOk r → front ++ drop d.count d.all.now ≡ front ++ drop (length xs) old
   follows_front front ok =
       let w = done.written (cut.sorts.0 ok) in
       let e : drop d.count d.all.now ≡ drop (length xs) old = (λ i. drop (w.0 i) (w.1 i)) ∙ drop-append_seam xs (drop (length xs) old) in
       ap (λ (l : List ℕ). front ++ l) e
 
-  -- After a failure, the buffer is a beginning of the bytes and then the old bytes.
+  -- After a failure, the buffer has a prefix of the bytes and then the old bytes.
   pub follows_old : OnErr r (IsWilling s v → left d.all.now)
   follows_old = by_answer r d.failed cut.sorts done.refused
     where
@@ -63,7 +62,7 @@ module _ {V : Type 0} (s : Shape V) (v : V) (xs : List ℕ) (left : List ℕ →
       by_answer (Err _) true sorts k = k refl
       by_answer (Err _) false sorts k = absurd (never_true (sorts.1 refl))
 
-  -- The front that is lent is the bytes that were to be written.
+  -- The slice returned has the bytes to be written.
   pub gives : IfOk r (λ x. x.now ≡ xs)
   gives = by_answer r d.failed cut.sorts cut.front (λ z. in_front d.count xs old d.all.now (done.written z).0 (done.written z).1)
     where
@@ -71,7 +70,7 @@ module _ {V : Type 0} (s : Shape V) (v : V) (xs : List ℕ) (left : List ℕ →
       by_answer (Ok x) b sorts w k = w ∙ k (sorts.0 refl)
       by_answer (Err _) b sorts w k = tt
 
-  -- No other spelling of the tree is as short as the front, if the bytes are its encoding.
+  -- If the bytes are the tree's canonical encoding, no accepted encoding of the tree is shorter than the slice returned.
   pub shortest : xs ≡ canonical (s.tree v) → IfOk r (λ x. (p : List ℕ) → Spells (s.tree v) p → (p ≡ x.now) ⊎ (length x.now < length p))
   shortest is = by_answer r gives
     where
@@ -83,7 +82,7 @@ module _ {V : Type 0} (s : Shape V) (v : V) (xs : List ℕ) (left : List ℕ →
   pub fits_iff : IsWilling s v → IsOk r ↔ (length xs ≤ length old)
   fits_iff n = let e = done.fits_iff n in ((λ ok. e.0 (cut.sorts.0 ok)), (λ fits. cut.sorts.1 (e.1 fits)))
 
-  -- The error of the result has the property that that of the attempt has.
+  -- If the attempt's error has a property, the error of the result has it.
   error_has : (P : Error → Type 0) → (d.failed ≡ true → P d.error) → IfErr r P
   error_has P = by_answer r d.failed cut.sorts cut.error
     where
@@ -108,7 +107,7 @@ module _ {V : Type 0} (s : Shape V) (v : V) (xs : List ℕ) (left : List ℕ →
       by_answer (Ok x) b sorts k = k (sorts.0 refl)
       by_answer (Err _) b sorts k = tt
 
-  -- The front that is lent spells the tree, if the bytes are its encoding.
+  -- If the bytes are the tree's canonical encoding, the slice returned encodes the tree.
   pub spelled : xs ≡ canonical (s.tree v) → IfOk r (λ x. Spells (s.tree v) x.now)
   spelled is = by_answer r gives fits
     where
@@ -116,7 +115,7 @@ module _ {V : Type 0} (s : Shape V) (v : V) (xs : List ℕ) (left : List ℕ →
       by_answer (Ok x) h f = subst (λ (l : List ℕ). Spells (s.tree v) l) (sym (h ∙ is)) (is_spelled s v f)
       by_answer (Err _) h f = tt
 
-  -- The front that is lent decodes to the data, if the bytes are its frame.
+  -- If the bytes are the frame of the data, the slice returned decodes to the data.
   pub decodes : (content : List ℕ) → xs ≡ made content → IfOk r (λ x. DecodesTo x.now content)
   decodes content is = by_answer r gives
     where
@@ -124,7 +123,7 @@ module _ {V : Type 0} (s : Shape V) (v : V) (xs : List ℕ) (left : List ℕ →
       by_answer (Ok x) h = frame_decodes x.now content (h ∙ is)
       by_answer (Err _) h = tt
 
--- If the whole buffer ends as F of the front, it satisfies any relation that F satisfies.
+-- If the whole buffer ends as F of the prefix, it satisfies any relation that F satisfies.
 module _ {M : Type 1} {𝓤 : Ura M} (𝓛 : Logic 𝓤) (R U : RattleType) (γ : GName) (m : Option GName) (F : U.Denot → R.Denot) (v : R.Denot) (P : U.Denot → R.Denot → Type 0) (P₀ : R.Denot → Type 0) where
   pub follows_such : ((w : U.Denot) → P w (F w)) → P₀ v → ent 𝓤 (sem 𝓛 (follows_if R U γ m F v)) (sem 𝓛 (follows_so R U γ m P P₀))
   unfolding such_by

@@ -1,4 +1,4 @@
--- A front of a steady reader's known bytes can be taken, if the scratch is as long.
+-- A prefix of a steady reader's known bytes can be taken, if the scratch is as long.
 use Rattle.std.proofs.Common.{◌≡◌, ◌≤◌, ◌+◌, ℕ, List, length, Option, Some, None, sym, ap, subst, arith, length-append}
 use Rattle.std.specs.Io.KnownBytes.{Consumes}
 use Rattle.postcard_de_flavors.specs.IOReader.{CanRead, reader_of, scratch_of, left_of}
@@ -6,13 +6,13 @@ use Rattle.postcard_de_flavors.specs.Reader.{AtLeast}
 use Rattle.postcard_de_flavors.specs.Source.{Begins, CanTake, KeepsRear}
 use Rattle.postcard_de_flavors.specs.declared.io.io.IOReader.{IOReader}
 
--- Known bytes that begin with a front are at least as many as the front has.
+-- Bytes that begin with a prefix are no fewer than those of the prefix.
 begins_at_least : (known : Option (List ℕ)) (front : List ℕ) → Begins known front → AtLeast known (length front)
 begins_at_least None front b = b
 begins_at_least (Some bytes) front b = omega (arith, ap length b.1, length-append front b.0)
 
 module _ {T : Type 0} (remaining : T → Option (List ℕ)) (steady : T → Type 0) where
-  -- A front of a steady reader's known bytes can be taken, if the scratch is as long.
+  -- A prefix of a steady reader's known bytes can be taken, if the scratch is as long.
   pub can_take : (s : IOReader T) (reader : T) (scratch front : List ℕ) → reader_of s ≡ reader → scratch_of s ≡ scratch → steady reader → Begins (remaining reader) front → length front ≤ length scratch
       → CanTake (left_of remaining) (CanRead remaining steady) s front
   can_take s reader scratch front is_reader is_scratch is_steady begins room =
@@ -26,8 +26,7 @@ module _ {T : Type 0} (remaining : T → Option (List ℕ)) (steady : T → Type
   pub consumed : (old new from to : T) (front : List ℕ) → old ≡ from → to ≡ new → Consumes (remaining old) (remaining new) front → Consumes (remaining from) (remaining to) front
   consumed old new from to front e f h = subst (λ (r : T). Consumes (remaining r) (remaining to) front) e (subst (λ (r : T). Consumes (remaining old) (remaining r) front) (sym f) h)
 
-  -- If a source with n bytes more than the front was able to give them, the reader and the scratch left
-  -- have n bytes.
+  -- Let a source be able to give the prefix and n more bytes. Once the prefix is taken, the reader and the scratch have n bytes left.
   pub kept : (old new : IOReader T) (from to : T) (given rest : List ℕ) (front : List ℕ) → reader_of old ≡ from → scratch_of old ≡ given → to ≡ reader_of new → rest ≡ scratch_of new
       → ((n : ℕ) → CanRead remaining steady old (length front + n) → CanRead remaining steady new n)
       → (n : ℕ) → steady from → AtLeast (remaining from) (length front + n) → length front + n ≤ length given → AtLeast (remaining to) n × (n ≤ length rest)

@@ -18,7 +18,7 @@ use Rattle.postcard_shape.proofs.Again as again
 use Rattle.postcard.specs.Frames.{DecodesTo}
 -- How a value that is made of others is written: the calls of its `serialize`, one after the other.
 pub use Rattle.postcard_ser.proofs.PartByPart.{wrote_none, wrote_refusal, wrote_err, wrote_ok, wrote_last, wrote_stop, wrote_then, wrote_as, wrote_end, wrote_closes}
--- A call that had room: its error can only be one by which the value refuses itself.
+-- A call that had room can only fail with an error by which the value refuses itself.
 pub use Rattle.postcard_ser.proofs.Refusals.{no_error, succeeds}
 -- Sets of trees whose encodings are prefix-free, and whose trees are well formed.
 pub use Rattle.postcard_wire.proofs.Delimited.{byte_delimited, boolean_delimited, num_delimited, int_delimited, char_delimited, text_delimited}
@@ -28,7 +28,7 @@ pub use Rattle.postcard_wire.proofs.WellFormed.{option_well_formed, end_well_for
 -- The encodings of a list's elements, one after the other, and the number of elements.
 pub use Rattle.postcard_ser.proofs.Elements.{elements_count, elements_more, elements_cut}
 pub use Rattle.postcard_shape.proofs.Bytes.{bytes_of_bytes}
--- Bytes that were taken, one front after another.
+-- Bytes that were taken from a source, one piece after another.
 pub use Rattle.postcard_de_nodes.specs.TakeLemmas.{nothing_taken, both_taken, faces, can_first, can_second}
 -- Two things in a row read as one thing; what was read, turned into another value; lack of memory.
 pub use Rattle.postcard_de_nodes.specs.CompoundLemmas.{Compound, first_refused, second_refused, both_read}
@@ -49,8 +49,8 @@ pub use Rattle.postcard_de.proofs.Enums.{unknown_index}
 pub use Rattle.postcard_de_nodes.specs.SeenLemmas.{no_room}
 -- Errors of parts are among those of a type that allocates.
 pub use Rattle.postcard_de_nodes.specs.ErrorLemmas.{with_memory, only_memory}
--- A reading loop of a caller: the state within a piece that is fed, the answers of bytes in a row, and what a feed of a caller, by
--- `take_in`, may return.
+-- A reading loop of a caller. The lemmas are on the state within a piece that is fed, on the answers of bytes in a row, and on the results
+-- of a feed that calls `take_in`.
 pub use Rattle.postcard_accumulator.proofs.ReadLoop.{AtWindow, at_start, at_next, at_end, shorter}
 pub use Rattle.postcard_accumulator.proofs.Joining.{joined_law}
 pub use Rattle.postcard_accumulator.proofs.Taking.{read_consumed, read_over_full}
@@ -65,7 +65,7 @@ u16_len = writing.few_16
 pub u32_len : (n : ℕ) → n < 2 ^ 32 → length (digits n) ≤ 5
 u32_len = writing.few_32
 
--- A `u64`, a `usize`, or the count before a text, a list or a map takes at most 10 bytes.
+-- A `u64`, a `usize`, or the count before a string, a list or a map takes at most 10 bytes.
 pub u64_len : (n : ℕ) → n < 2 ^ 64 → length (digits n) ≤ 10
 u64_len = writing.few_64
 
@@ -101,7 +101,7 @@ char_len c =
     let d = short_len (length (encode_utf8 c)) (omega arith) in
     omega (arith, length-append (digits (length (encode_utf8 c))) (encode_utf8 c))
 
--- The length of a text's encoding is that of its length's varint plus the number of its bytes.
+-- The length of a string's encoding is that of its length's varint plus the number of its bytes.
 pub text_len : (u : List ℕ) → length (canonical (Text u)) ≡ length (digits (length u)) + length u
 text_len u = length-append (digits (length u)) u
 
@@ -110,8 +110,7 @@ text_len u = length-append (digits (length u)) u
 pub seq_len : (ts : Trees) → length (canonical (Seq ts)) ≡ length (digits (count ts)) + length (canonical_all ts)
 seq_len ts = length-append (digits (count ts)) (canonical_all ts)
 
--- The length of the encodings of parts in a row, as of a tuple, a struct or a list, is that of the
--- first plus that of the others.
+-- The length of parts in a row, as of a tuple, a struct or a list: that of the first part's encoding plus that of the others.
 pub parts_len : (t : Tree) (ts : Trees) → length (canonical_all (Then t ts)) ≡ length (canonical t) + length (canonical_all ts)
 parts_len t ts = length-append (canonical t) (canonical_all ts)
 
@@ -119,15 +118,15 @@ parts_len t ts = length-append (canonical t) (canonical_all ts)
 pub variant_len : (i : ℕ) (t : Tree) → length (canonical (Variant i t)) ≡ length (digits i) + length (canonical t)
 variant_len i t = length-append (digits i) (canonical t)
 
--- The canonical encoding of a well formed tree spells it.
+-- The canonical encoding of a well formed tree is an accepted one.
 pub canonical_spells : (t : Tree) → WellFormed t → Spells t (canonical t)
 canonical_spells = shortest.Spells-canonical
 
--- Any spelling of a tree other than its canonical encoding is longer.
+-- Any accepted encoding of a tree other than the canonical one is longer.
 pub others_longer : (t : Tree) (p : List ℕ) → Spells t p → (p ≡ canonical t) ⊎ (length (canonical t) < length p)
 others_longer = shortest.least
 
--- No spelling of a tree is shorter than its canonical encoding.
+-- No accepted encoding of a tree is shorter than its canonical encoding.
 pub spelling_len : (t : Tree) (p : List ℕ) → Spells t p → length (canonical t) ≤ length p
 spelling_len t p s =
     elim (others_longer t p s) [
@@ -135,15 +134,15 @@ spelling_len t p s =
       | inr h ↦ omega (arith, h)
     ]
 
--- What is written for a value that fits spells its tree.
+-- The bytes of a value that fits are an accepted encoding of its tree.
 pub written_spells : {V : Type 0} (s : Shape V) (v : V) → s.fits v → Spells (s.tree v) (canonical (s.tree v))
 written_spells = again.is_spelled
 
--- The tree of a value that fits is one that its type reads, and the value is a value of that tree.
+-- The tree of a value that fits is a tree that its type reads, and the value is a value of that tree.
 pub comes_back : {V : Type 0} (s : Shape V) (v : V) → s.fits v → s.reads (s.tree v) × s.value (s.tree v) v
 comes_back s = s.again
 
--- Every value of the tree of a value that fits looks like that value.
+-- Every value of the tree of a value that fits equals that value, as far as the shape tells values apart.
 pub looks_alike : {V : Type 0} (s : Shape V) (v w : V) → s.fits v → s.value (s.tree v) w → s.same w v
 looks_alike = again.is_same
 

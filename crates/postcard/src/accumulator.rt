@@ -1,4 +1,5 @@
-//! Frames from a stream that comes in pieces, and in `checksum` frames of values with a checksum.
+//! Frames from a stream that comes in pieces. The module `checksum` has frames of values with a
+//! checksum.
 
 pub use postcard_accumulator::{CobsAccumulator, FeedResult, laws};
 pub use postcard_crc::frames as checksum;

@@ -1,5 +1,5 @@
-//! Encoding into frames of COBS (Cheshire and Baker, 1999): the frame of a value's canonical
-//! encoding, and the zero that ends it, which counts as a byte of the frame.
+//! Encoding into frames of COBS (Cheshire and Baker, 1999). A frame has a value's canonical
+//! encoding, and a zero ends it. The zero counts as a byte of the frame.
 
 ghost use Rattle.std.specs.Prelude.{◌≡◌, ◌-◌, ◌≤◌, ◌↔◌, ◌++◌, length, take, drop, IfOk, IfErr};
 ghost use Rattle.std.specs.Prelude.{IsOk, OnOk, ⊤};
@@ -95,7 +95,7 @@ pub fn to_slice_cobs<'a, T: Serialize>(value: &T, buf: &'a mut [u8]) -> Result<&
     lend_front(write_frame(value, buf))
 }
 
-/// Does what [`framed`] does, but returns the storage in any case, and whether it succeeded.
+/// Does what [`framed`] does, but always returns the storage, with whether it succeeded.
 fn frame_into<T: Serialize, B: Storage + Drop>(value: &T, storage: B) -> (B, Result<()>)
     ensures gives { OnOk result.1
         (B.held result.0 ≡ B.held storage ++ made (encoding T.shape value.now)) }
@@ -118,7 +118,7 @@ fn frame_into<T: Serialize, B: Storage + Drop>(value: &T, storage: B) -> (B, Res
     }
 }
 
-/// Encodes a value as a frame into the front of a buffer.
+/// Encodes a value as a frame into the first bytes of a buffer.
 fn write_frame<'a, T: Serialize>(value: &T, buf: &'a mut [u8]) -> Attempt<'a>
     ensures same_loan { result.all.ghost_name ≡ buf.entry.ghost_name }
     ensures attempts { IsAttempt T.shape value.now (made (encoding T.shape value.now))

@@ -9,21 +9,21 @@ use postcard_de_flavors::io::io::IOReader;
 use postcard_wire::{Error, Result};
 use std::alloc::Global;
 
-/// Decodes a value from a reader and a scratch buffer, and returns it with what is left of both,
-/// for the next call. The bytes after the value stay unread.
+/// Decodes a value from a reader and a scratch buffer. Returns the value, the reader and the
+/// remaining scratch, for the next call. The bytes after the value stay unread.
 ///
-/// A slice or a string that the value borrows is in the scratch buffer, and uses up as many of its
-/// bytes. A `String` needs as many while it is read, and uses up none. Numbers need none. The
-/// scratch that is returned is the end of the one passed. Only the first bytes of the one passed
-/// may have changed, at most as many as were read.
+/// A slice or a string that the value borrows lies in the scratch buffer, and uses up its length
+/// there. A `String` needs its length only while it is read, and uses up nothing. Numbers need no
+/// scratch. The scratch returned is the end of the scratch passed. Reading `n` bytes changes at
+/// most the first `n` bytes of the scratch passed.
 ///
 /// Over a steady reader, the call succeeds if the reader's bytes begin with an accepted encoding of
-/// the type, and the scratch is at least as long as that. An allocation may still fail.
+/// the type and the scratch is no shorter. An allocation may still fail.
 /// [`Plain`](crate::de_flavors::Plain) wraps a reader that is no `Reader`.
 ///
 /// # Errors
 ///
-/// Fails as [`take_from_bytes`](crate::take_from_bytes), and with `DeserializeUnexpectedEnd` also
+/// Fails as [`take_from_bytes`](crate::take_from_bytes). Also fails with `DeserializeUnexpectedEnd`
 /// if the reader fails or the scratch is too short. After a failure the reader and the scratch are
 /// dropped.
 ///

@@ -1,5 +1,5 @@
-//! The size of a value's encoding, and the greatest of a type's encodings, which the Rust crate has
-//! in its module of this name.
+//! The size of a value's encoding, and the greatest size of a type's encodings. The Rust crate has
+//! them in a module of the same name.
 
 ghost use Rattle.std.specs.Prelude.{◌≡◌, ◌<◌, ◌^◌, ◌↔◌, length, IfOk, IfErr, IsOk};
 ghost use Rattle.postcard.specs.{IsErrorOf, IsWilling, encoding};

@@ -1,5 +1,7 @@
-//! Laws of what the calls return, as contracts of functions that do nothing, except for
-//! [`comes_back`] and [`frame_comes_back`].
+//! Laws of what the calls return. Each law is the contract of a function that does nothing, except
+//! that [`comes_back`] and [`frame_comes_back`] run the calls. A contract can tell two values apart
+//! only by what their type's shape says of them. Values that it can't tell apart are called equal
+//! here.
 
 ghost use Rattle.std.specs.Prelude.{◌≡◌, ◌≤◌, ℕ, List, ◌++◌, length, Some, IfOk};
 ghost use Rattle.postcard.specs.{Begins, ReadsFront, ReadsReader, Spells, Tree, canonical};
@@ -15,7 +17,7 @@ use std::alloc::Global;
 
 /// What was encoded is decoded, whatever bytes follow. Let bytes begin with the canonical encoding
 /// of a tree that the type reads. They are read as a value of that tree, and just the bytes after
-/// it are left.
+/// the encoding are left.
 pub fn decodes_encoded<'a, T: Deserialize<'a>>()
     ensures spelled { (t : Tree) → T.shape.reads t → Spells t (canonical t) }
     ensures decoded { (t : Tree) (rest left : List ℕ) (v : T) → T.shape.reads t
@@ -23,17 +25,17 @@ pub fn decodes_encoded<'a, T: Deserialize<'a>>()
         → T.shape.value t v × (left ≡ rest) }
 {}
 
-/// Two decodings of the same bytes, as by `take_from_bytes` and by `from_io`, return values that
-/// look alike and leave the same bytes.
+/// Two decodings of the same bytes, as by `take_from_bytes` and by `from_io`, return equal values
+/// and leave the same bytes.
 pub fn decodes_alike<'a, T: Deserialize<'a>>()
     ensures { (all rest left : List ℕ) (v w : T) → ReadsFront T.shape.reads T.shape.value all v rest
         → ReadsFront T.shape.reads T.shape.value all w left → T.shape.same v w × (rest ≡ left) }
 {}
 
-/// Reading from a reader that knows its bytes agrees with reading from these bytes: the values of
-/// `from_io` and of `take_from_bytes` look alike, and what stays unread is the rest. Over a steady
-/// reader with scratch as long as the bytes, `from_io` succeeds if and only if they can be decoded,
-/// unless an allocation fails.
+/// Reading from a reader that knows its bytes agrees with reading from these bytes. `from_io` and
+/// `take_from_bytes` return equal values, and the reader has the remaining bytes. Over a steady
+/// reader with scratch as long as the bytes, `from_io` succeeds if and only if they can be decoded
+/// and no allocation fails.
 pub fn reads_alike<'a, T: Deserialize<'a>, R: Reader>()
     ensures alike { (old new : R) (all scratch room rest : List ℕ) (v w : T)
         → R.remaining old ≡ Some all
@@ -50,12 +52,13 @@ pub fn reads_alike<'a, T: Deserialize<'a>, R: Reader>()
         × Begins (R.remaining old) front × (length front ≤ length scratch) }
 {}
 
-/// Encodes a value, decodes it again, and returns the decoded value, which looks like the first.
+/// Encodes a value, decodes it again, and returns the decoded value, which equals the first.
 ///
 /// # Errors
 ///
-/// Fails with `SerializeBufferFull` or `OutOfMemory` if an allocation fails, with `CollectStrError`
-/// for a type whose text may fail to print, and with the error of a value that refuses itself.
+/// Fails with `SerializeBufferFull` or `OutOfMemory` if an allocation fails. A type that is written
+/// as the string that it prints may fail with `CollectStrError`. A value that refuses itself fails
+/// with its own error.
 pub fn comes_back<T: Serialize + DeserializeOwned>(alloc: Global, value: &T) -> Result<T>
     ensures { IfOk result (λ back. T.shape.same back value.now) }
 {
@@ -64,8 +67,8 @@ pub fn comes_back<T: Serialize + DeserializeOwned>(alloc: Global, value: &T) -> 
     Ok(back)
 }
 
-/// Encodes a value as a frame, decodes it in place, and returns the decoded value, which looks like
-/// the first. Fails as [`comes_back`].
+/// Encodes a value as a frame, decodes it in place, and returns the decoded value, which equals the
+/// first. Fails as [`comes_back`].
 pub fn frame_comes_back<T: Serialize + DeserializeOwned>(alloc: Global, value: &T) -> Result<T>
     ensures { IfOk result (λ back. T.shape.same back value.now) }
 {

@@ -15,14 +15,15 @@
 //!
 //! A value *refuses itself* if its own `Serialize` may fail, whatever the flavor. It breaks a rule
 //! of its type, begins a list without a length, or is written by a `Display` that may fail. In this
-//! library only a `SystemTime` outside of its range does, and what contains it. std makes no such
-//! time. The shape of your own type says so (`specs/Refusing.antt` of `postcard_shape`).
+//! library only a `SystemTime` outside of its range does, and a value that contains one. std makes
+//! no such time. The shape of your own type says so (`specs/Refusing.antt` of `postcard_shape`).
 //!
 //! # Errors of encoding
 //!
 //! Each call that encodes says when it fails with `SerializeBufferFull`. There are two exceptions:
 //!
-//! - For a type whose text may fail to print, the error may be `CollectStrError` instead.
+//! - For a type that is written as the string that it prints, the error may be `CollectStrError`
+//!   instead.
 //! - A value that refuses itself may fail in any case, also with an error of its own. If there is
 //!   room for its encoding, it fails only with such an error.
 //!
@@ -32,7 +33,7 @@
 //!   `to_extend` and `to_io` elsewhere, and `serialize_with_flavor` into any flavor. `experimental`
 //!   has the sizes of encodings.
 //! - The names with `_cobs` write and read a value as a frame.
-//! - `from_bytes` and `take_from_bytes` read a value from the front of a slice, and `from_io` from
+//! - `from_bytes` and `take_from_bytes` read a value from the start of a slice, and `from_io` from
 //!   a reader.
 //! - `CobsAccumulator` puts frames together from the pieces of a stream, and `read_frames` reads
 //!   the frames of a reader.

@@ -10,8 +10,8 @@ use postcard_ser::{Serialize, Serializer};
 use postcard_ser_flavors::Slice;
 use postcard_wire::{Error, Result};
 
-/// Encodes a value into the first bytes of `buf`, and returns them: the canonical encoding. The
-/// bytes after them are unchanged. Nothing is allocated.
+/// Encodes a value into the first bytes of `buf`, and returns these bytes, the canonical encoding.
+/// The bytes after them are unchanged. Nothing is allocated.
 ///
 /// [`fill_slice`] says in plain clauses what `writes_back` does.
 ///
@@ -47,8 +47,8 @@ pub fn to_slice<'a, T: Serialize>(value: &T, buf: &'a mut [u8]) -> Result<&'a mu
     lend_front(write_front(value, buf))
 }
 
-/// Does what [`to_slice`] does, with the same errors, for callers that keep the buffer, and returns
-/// the number of bytes written.
+/// Does what [`to_slice`] does, with the same errors, and returns the number of bytes written. It
+/// is for callers that keep the buffer.
 ///
 /// # Examples
 ///
@@ -67,8 +67,8 @@ pub fn fill_slice<T: Serialize>(value: &T, buf: &mut [u8]) -> Result<usize>
     if failed { Err(error) } else { Ok(count) }
 }
 
-/// The whole buffer, the number of bytes written, and the error, which counts only if the attempt
-/// `failed`.
+/// The outcome of writing into a buffer: the whole buffer, the number of bytes written, and the
+/// error. The error counts only if the attempt `failed`.
 pub(crate) struct Attempt<'a> {
     pub(crate) all: &'a mut [u8],
     pub(crate) count: usize,
@@ -76,7 +76,7 @@ pub(crate) struct Attempt<'a> {
     pub(crate) error: Error,
 }
 
-/// Writes the value into the front of the buffer.
+/// Writes the value into the first bytes of the buffer.
 fn write_front<'a, T: Serialize>(value: &T, buf: &'a mut [u8]) -> Attempt<'a>
     ensures same_loan { result.all.ghost_name ≡ buf.entry.ghost_name }
     ensures attempts { IsAttempt T.shape value.now (encoding T.shape value.now)
@@ -103,7 +103,7 @@ fn write_front<'a, T: Serialize>(value: &T, buf: &'a mut [u8]) -> Attempt<'a>
     }
 }
 
-/// Returns the front of the buffer that was written, or the error if the attempt failed.
+/// Returns the prefix of the buffer that was written, or the error if the attempt failed.
 pub(crate) fn lend_front<'a>(attempt: Attempt<'a>) -> Result<&'a mut [u8]>
     requires { attempt.count ≤ length attempt.all.now }
     ensures* writes_back { sem 𝓛 (LendsIfOk (Array u8 0) (Array u8 0) attempt.entry.all result

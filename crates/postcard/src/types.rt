@@ -1,5 +1,5 @@
-//! What the impls of a type of your own call: `write_variant` writes a value of an enum, and
-//! `read_parts` reads a value by its parts, of which `from_parts` of the type makes it.
+//! Calls for the impls of a type of your own. `write_variant` writes a value of an enum.
+//! `read_parts` reads the parts of a value, of which the type's `from_parts` makes the value.
 
 ghost use Rattle.std.specs.Prelude.{◌≡◌, OnOk};
 ghost use Rattle.postcard.specs.{Deserializes, IsVariantOf, Wrote, encoding, via};
@@ -16,9 +16,9 @@ use std::alloc::Global;
 /// content. `value` is for the contract alone, which requires that its type's shape gives it this
 /// index and this content.
 ///
-/// The content is `&()` for a variant without fields, a reference to the field for one, and a
-/// reference to the tuple of them for several, as in
-/// `Event::Fault { code, text } => write_variant(self, 2, &(code, text), serializer)`.
+/// The content is `&()` for a variant without fields, and a reference to the field for one field.
+/// For several it is a reference to their tuple, as in `Event::Fault { code, text } =>
+/// write_variant(self, 2, &(code, text), serializer)`.
 ///
 /// # Errors
 ///
@@ -46,8 +46,8 @@ pub fn write_variant<E: Shaped, T: Serialize, F: Flavor>(
     serialize_variant(index, content, serializer)
 }
 
-/// A type whose values are made of their parts. Those of a struct are the tuple of its fields, or a
-/// tuple of tuples of them. Those of an enum are its variants in a row (`Case`).
+/// A type whose values are made of their parts. The parts of a struct are the tuple of its fields,
+/// or a tuple of tuples of them. The parts of an enum are its variants in a row (`Case`).
 ///
 /// Its shape is that of the parts, `via ⟦<Point as FromParts>⟧.seen ⟦<Parts as Shaped>⟧.shape`, and
 /// its `deserialize` calls [`read_parts`].

@@ -1,5 +1,5 @@
-//! Encoding into any writing flavor, and the calls that encode into an `ArrayVec`, a `Vec`, a
-//! target that grows, and a writer.
+//! Encoding into any writing flavor, and the calls that encode into an `ArrayVec`, a `Vec`, an
+//! extensible target, and a writer.
 
 ghost use Rattle.std.specs.Prelude.{◌≡◌, ◌≤◌, ◌++◌, length, IfOk, IfErr, IsOk, OnOk};
 ghost use Rattle.postcard.specs.{Appends, Encodes, EncodesGrowing, IsErrorOf, IsWilling, encoding};
@@ -54,8 +54,8 @@ pub fn serialize_with_flavor<T: Serialize, S: Flavor<Output = O> + Drop, O>(
 ///
 /// # Errors
 ///
-/// Fails with `SerializeBufferFull` if and only if the encoding has more than `B` bytes, but for
-/// the [exceptions](crate#errors-of-encoding).
+/// Fails with `SerializeBufferFull` if and only if the encoding has more than `B` bytes. The
+/// [exceptions](crate#errors-of-encoding) apply.
 ///
 /// # Examples
 ///
@@ -70,10 +70,10 @@ pub fn to_vec<T: Serialize, const B: usize>(value: &T) -> Result<ArrayVec<u8, B>
     serialize_with_flavor(value, HVec::new())
 }
 
-/// Encodes a value into a new `Vec`, whose memory it requests once, as much as the encoding needs.
+/// Encodes a value into a new `Vec`. It allocates once, the size of the encoding.
 ///
-/// The value is written twice: first to count its bytes. For a value that is slow to write, such as
-/// a long text by `collect_str`, [`to_extend`] with an empty `Vec` writes it once.
+/// The value is written twice: first to count its bytes. A value that is slow to write, such as a
+/// long string by `collect_str`, is written once by [`to_extend`] with an empty `Vec`.
 ///
 /// # Errors
 ///
@@ -113,7 +113,7 @@ pub fn to_stdvec<T: Serialize>(alloc: Global, value: &T) -> Result<Vec<u8>>
     to_allocvec(alloc, value)
 }
 
-/// Encodes a value after what the target `writer` holds, and returns the target.
+/// Encodes a value after the bytes that the target `writer` holds, and returns the target.
 ///
 /// # Errors
 ///

@@ -56,7 +56,7 @@ of_map s n a x b y da dx db dy ea ex eb ey key value is new_is =
     (seq_serves (reads new) (said new) (reads old) (said old)
     (entries_serve (type_of b.value) (type_of y.value) (type_of a.value) (type_of x.value) (held da db a b ea eb key) (held dx dy x y ex ey value)))
 
--- As many parts as there are, each of which serves the one at its place, serve.
+-- If the parts of a row each serve the part at their place in a row of the same length, the row serves that row.
 all_serve : (ns os : List Schema) → length os ≡ length ns → VariantsServe (types_of ns) (types_of os) → AllServe (types_of ns) (types_of os)
 all_serve [] [] e h = end_serves
 all_serve [] (o ∷ os) e h = absurd (omega (arith, e))

@@ -15,7 +15,7 @@ reflexive a = itself (reads a) (said a)
 pub transitive : (a b c : MessageType) → Serves c b → Serves b a → Serves c a
 transitive a b c = through (reads c) (said c) (reads b) (said b) (reads a) (said a)
 
--- What the old type writes is a message of the new one, which says the same, and whatever follows it, the new type reads just that.
+-- What the old type writes is a message of the new type that says the same. Whatever bytes follow it, the new type reads just that message.
 pub read_whole : (new old : MessageType) → Serves new old → (t : Tree) (rest : List ℕ) → reads old t
     → (s : Tree) × reads new s × (said new s ≡ said old t) × Spells s (canonical t)
     × ((u : Tree) (q x : List ℕ) → reads new u → Spells u q → q ++ x ≡ canonical t ++ rest → (q ≡ canonical t) × (u ≡ s))

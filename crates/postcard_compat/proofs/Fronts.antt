@@ -1,4 +1,4 @@
--- A row of parts serves the front of a longer one.
+-- A row of parts serves the first parts of a longer row.
 use Rattle.std.proofs.Common.{◌≡◌, ℕ, ◌+◌, ◌<◌, ◌≤◌, List, [], ◌∷◌, ◌++◌, length, get_or, drop, refl, sym, ap, ap₂, subst, ◌∙◌, append_assoc}
 use Rattle.std.proofs.Math.ListN.{drop_of_length-le}
 use Rattle.postcard_wire.specs.Tree.{Group, NoTrees, Then}
@@ -9,7 +9,7 @@ use Rattle.postcard_compat.specs.Said.{Word, said, said_all}
 use Rattle.postcard_compat.specs.Serving.{Serves, ServesFront, AllServeFront}
 use Rattle.postcard_compat.proofs.ByKind.{cut}
 
--- No parts are the front of any.
+-- The empty row is a prefix of each row.
 pub none_front : (os : MessageTypes) → AllServeFront no_types os
 none_front os ts r = (NoTrees, said_all os ts, refl, refl, λ p k. ([], p, refl, refl))
 

@@ -76,7 +76,7 @@ rows_one x y h = record {
 
 -- ---- Groups
 
--- What one tree in a row is spelled as, and what it says.
+-- The encodings of one tree in a row, and what the tree says.
 alone : (t : Tree) (p : List ℕ) → Spells t p → SpellsAll (Then t NoTrees) p
 alone t p s = (p, [], s, refl, sym (append-nil p))
 

@@ -1,4 +1,4 @@
--- What verdicts rest on.
+-- Lemmas from which the verdicts of `compare` follow.
 use Rattle.std.proofs.Common.{◌≡◌, ℕ, List, [], ◌++◌, Option, Some, IfSome, sym, ap, subst, ◌∙◌, append_assoc, append-nil}
 use Rattle.postcard_schema.specs.declared.schema.Schema.{Schema}
 use Rattle.postcard_schema.specs.Meaning.{MessageType, type_of}
@@ -17,7 +17,7 @@ serves_is_front n o h t r =
     let (s, q, same, spelled) = h t r in
     (s, [], q, sym same ∙ sym (append-nil (said n s)), λ p k. (p, [], spelled p k, sym (append-nil p)))
 
--- If a type serves the old type and the front of the new one, the new one misreads nothing.
+-- If a type serves the old type and the first parts of the new one, the new type misreads nothing.
 pub front_never_misreads : (j n o : MessageType) → Serves j o → ServesFront j n → NeverMisreads n o
 front_never_misreads j n o h k t s p q x y r w sp sq e =
     let (a, ra, same, spells_a) = h t r in

@@ -36,18 +36,19 @@ abbrev pub IsWhole : Reading → Type 0
 IsWhole (Refused error offset path) = ⊥
 IsWhole (Read value left) = left ≡ 0
 
+-- The reading is a refusal.
 abbrev pub IsRefused : Reading → Type 0
 IsRefused (Refused error offset path) = Unit {0}
 IsRefused (Read value left) = ⊥
 
--- What the example shows.
+-- The meaning of each outcome: what the example shows of the two types.
 abbrev pub Shows : MessageType → MessageType → Example → Outcome → Type 0
 Shows old new e outcomes.Other = ReadsAsOther old new e
 Shows old new e outcomes.Whole = IsWhole e.reading
 Shows old new e outcomes.Refused = IsRefused e.reading
 Shows old new e outcomes.Left = Unit {0}
 
--- Whatever the new type reads of a message of the old one and the bytes after it has all bytes of the message, and says what the message
+-- Let the new type read a message of the old one with bytes after it. What it reads has all bytes of the message, and says what the message
 -- says. It may say more, of the bytes after it.
 abbrev pub NeverMisreads : MessageType → MessageType → Type 0
 NeverMisreads new old =
@@ -71,7 +72,7 @@ is_move change = false
 abbrev pub HasMove : List Difference → Type 0
 HasMove ds = (i : ℕ) × (d : Difference) × (i < length ds) × (d ≡ get_or ds i d) × (is_move d.what ≡ true)
 
--- The example is one that the new type reads to its end: as a value that says something else, or else a name stands at another place.
+-- The new type reads the example to its end. It reads a value that says something else, or a name stands at another place.
 abbrev pub IsMisread : MessageType → MessageType → List Difference → Example → Type 0
 IsMisread old new ds e = ReadsAsOther old new e ⊎ (IsWhole e.reading × HasMove ds)
 

@@ -40,5 +40,6 @@ pub record IsExample (old new : MessageType) (e : Example) : Type 0 where
   pub bytes_are : e.bytes.items ≡ canonical (tree e.value)
   pub reading_is : IsReading new e.bytes.items e.reading
 
+-- If the example is refused, its offset and its path are those of the part that can't be read.
 abbrev pub IsPlaced : Schema → Example → Type 0
 IsPlaced new e = ShowsPlace new e.bytes.items e.reading

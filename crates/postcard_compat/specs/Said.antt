@@ -12,9 +12,9 @@ use Rattle.postcard_schema.specs.Leaves.{float_size, is_signed, size_of}
 use Rattle.postcard_schema.specs.Meaning.{MessageType, MessageTypes, leaf, option, seq, array, group, choice, no_types, then_type}
 use Rattle.postcard_value.specs.Numbers.{bytes_of, order_of, signed_of}
 
--- One thing that is said: a value without parts, whatever its width; of a list the number of its elements, and of an enum the index of
--- the variant. An option is said as an enum, with no value at index 0 and a value at index 1. What is said of an element of a list or
--- of a variant's content ends with `End`.
+-- One thing that is said: a value without parts, without its width, the number of a list's elements, or the index of a variant. An option
+-- is said as an enum, with no value at index 0 and a value at index 1. What is said of an element of a list or of a variant's content ends
+-- with `End`.
 pub data Word : Type 0 where
   Truth : Bool → Word
   Number : ℤ → Word
@@ -41,10 +41,12 @@ integer_said integer (Num w n) = Number (pos n) ∷ []
 integer_said integer (Int w z) = Number z ∷ []
 integer_said integer t = []
 
+-- The elements of a list, each followed by an end.
 abbrev pub each_said : Saying → Trees → List Word
 each_said says NoTrees = []
 each_said says (Then t ts) = says t ++ End ∷ each_said says ts
 
+-- A list says the number of its elements, and then each element.
 abbrev pub list_said : Saying → Saying
 list_said says (Seq ts) = Count (count ts) ∷ each_said says ts
 list_said says t = []
@@ -59,6 +61,7 @@ leaf_said leaves.Bytes t = list_said (integer_said U8) t
 leaf_said (leaves.Fixed order integer) (Group ts) = Number (fixed_number (is_signed integer) (size_of integer) ((order_of order).value (bytes_of ts))) ∷ []
 leaf_said l t = []
 
+-- An option says its index, its value if it has one, and an end.
 abbrev pub option_said : Saying → Saying
 option_said says Absent = Index 0 ∷ End ∷ []
 option_said says (Present t) = Index 1 ∷ (says t ++ End ∷ [])
@@ -69,18 +72,22 @@ abbrev pub elements_said : Saying → Trees → List Word
 elements_said says NoTrees = []
 elements_said says (Then t ts) = says t ++ elements_said says ts
 
+-- An array says what its elements say.
 abbrev pub array_said : Saying → Saying
 array_said says (Group ts) = elements_said says ts
 array_said says t = []
 
+-- A group says what its parts say.
 abbrev pub group_said : (Trees → List Word) → Saying
 group_said say (Group ts) = say ts
 group_said say t = []
 
+-- A value of an enum says its index, its content, and an end.
 abbrev pub choice_said : (ℕ → Saying) → Saying
 choice_said says (Variant i t) = Index i ∷ (says i t ++ End ∷ [])
 choice_said says t = []
 
+-- Parts in a row say what the first says, and then what the others say.
 abbrev pub then_said : Saying → (Trees → List Word) → Trees → List Word
 then_said says say (Then t ts) = says t ++ say ts
 then_said says say ts = []

@@ -5,7 +5,8 @@ use Rattle.postcard_wire.specs.Spelling.{Spells, SpellsAll}
 use Rattle.postcard_schema.specs.Meaning.{MessageType, MessageTypes, reads, reads_all, reads_at, row_of}
 use Rattle.postcard_compat.specs.Said.{Word, Saying, said, said_all, said_at}
 
--- Each tree of the old set has a tree of the new one that says the same, and that all its spellings spell, too.
+-- For each tree of the old set there is a tree of the new one that says the same, and each accepted encoding of the old tree is one of the
+-- new tree.
 abbrev pub SetServes : (new : Tree → Type 0) → Saying → (old : Tree → Type 0) → Saying → Type 0
 SetServes new says old old_says = (t : Tree) → old t → (s : Tree) × new s × (says s ≡ old_says t) × ((p : List ℕ) → Spells t p → Spells s p)
 
@@ -17,6 +18,7 @@ RowServes new says old old_says = (ts : Trees) → old ts → (ss : Trees) × ne
 abbrev pub Serves : MessageType → MessageType → Type 0
 Serves new old = SetServes (reads new) (said new) (reads old) (said old)
 
+-- The new parts in a row serve the old parts in a row.
 abbrev pub AllServe : MessageTypes → MessageTypes → Type 0
 AllServe news olds = RowServes (reads_all news) (said_all news) (reads_all olds) (said_all olds)
 
@@ -38,5 +40,6 @@ VariantsServe news olds = (i : ℕ) → SetServes (reads_at news i) (said_at new
 abbrev pub ServesFront : MessageType → MessageType → Type 0
 ServesFront new old = (t : Tree) → reads old t → (s : Tree) × (more : List Word) × reads new s × (said old t ≡ said new s ++ more) × ((p : List ℕ) → Spells t p → (x y : List ℕ) × Spells s x × (p ≡ x ++ y))
 
+-- The new parts in a row serve the first of the old parts in a row.
 abbrev pub AllServeFront : MessageTypes → MessageTypes → Type 0
 AllServeFront news olds = (ts : Trees) → reads_all olds ts → (ss : Trees) × (more : List Word) × reads_all news ss × (said_all olds ts ≡ said_all news ss ++ more) × ((p : List ℕ) → SpellsAll ts p → (x y : List ℕ) × SpellsAll ss x × (p ≡ x ++ y))

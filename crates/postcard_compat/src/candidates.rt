@@ -86,7 +86,7 @@ fn add_directed(
     Ok(())
 }
 
-/// Adds a message, unless it is too long, or enough is made.
+/// Adds a message. Does nothing if the message is too long, or if enough messages are made.
 fn add(
     maker: &mut Maker,
     old: &Schema,

@@ -1,4 +1,4 @@
-//! How a part of the old type differs from that at its place in the new one: [`Difference`].
+//! How a part of the old type differs from the part at its place in the new type: [`Difference`].
 
 ghost use Rattle.std.specs.Prelude.{◌≡◌};
 ghost use Rattle.postcard_compat.specs.{is_move};
@@ -46,8 +46,8 @@ impl fmt::Display for Kind {
     }
 }
 
-/// How a part of the old type differs from that at its place in the new one. It is printed as the
-/// words after the path.
+/// How a part of the old type differs from the part at its place in the new type. It is printed as
+/// the words after the path.
 #[derive(Debug, Drop)]
 pub enum Change {
     /// The new type reads the part as the same. A note.
@@ -92,15 +92,17 @@ pub enum Change {
     Removed {
         kind: Kind,
     },
-    /// The variant's index is that of no variant.
+    /// The new type has no variant with this index.
     VariantRemoved {
         variant: Variant,
     },
-    /// The field is read as that with the name of another place.
+    /// The new type has the field's name at another place, so the message's field is read under
+    /// another name.
     Moved {
         path: String,
     },
-    /// The variant is read as that with the name of another index.
+    /// The new type has the variant's name at another index, so the message's variant is read under
+    /// another name.
     VariantMoved {
         variant: Variant,
         name: String,
@@ -176,8 +178,8 @@ pub enum Turn {
     Variant(usize),
 }
 
-/// A part of the old type that differs from that at its place in the new one. It is printed as its
-/// path, a colon, and how it differs.
+/// A part of the old type that differs from the part at its place in the new type. It is printed as
+/// its path, a colon, and how it differs.
 #[derive(Debug, Drop)]
 pub struct Difference {
     /// The path in the old type, such as `samples[].unit`. Empty for the whole.

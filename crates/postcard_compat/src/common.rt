@@ -40,7 +40,7 @@ pub fn both(alloc: Global, old: &Schema, new: &Schema) -> Result<Option<Schema>,
 }
 
 /// Returns the new type with the wider of each two integers, and the further variants of the old
-/// type. Where the types differ otherwise, the new type stands.
+/// type. Other parts that differ are those of the new type.
 #[cycle(join)]
 pub(crate) fn join(alloc: Global, new: &Schema, old: &Schema) -> Result<Schema, AllocError> {
     match (new, old) {

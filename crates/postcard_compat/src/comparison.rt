@@ -1,4 +1,4 @@
-//! Does a new version of a type read what the old version wrote: [`compare`].
+//! Whether a new version of a type reads what the old version wrote: [`compare`].
 
 ghost use Rattle.std.specs.Prelude.{◌≡◌, IfOk, IfSome, true};
 ghost use Rattle.postcard_compat.specs.{HasMove, IsCompared, IsExample, Means, NeverMisreads};
@@ -29,7 +29,7 @@ pub enum Verdict {
     /// The new type reads some message of the old one as another value, or a field or a variant by
     /// another one's name.
     Misread,
-    /// None of these is known.
+    /// None of the other verdicts is known to hold.
     Differs,
 }
 
@@ -71,8 +71,8 @@ enum Outcome {
     Other,
 }
 
-/// Compares two versions of a type: says whether the new one reads what the old one writes, lists
-/// how they differ, and searches for a message that shows it.
+/// Compares two versions of a type. It says whether the new one reads what the old one writes, and
+/// lists how they differ. It also searches for a message that shows a difference.
 ///
 /// The search is bounded. If it finds no message, `example` is `None`. Types with lists or arrays of
 /// elements without bytes, such as `[()]`, aren't searched.
@@ -124,7 +124,8 @@ fn relation_of(alloc: Global, old: &Schema, new: &Schema) -> Result<Relation, Al
     Ok(Relation::Unknown)
 }
 
-/// Returns `true` if a type was found that serves the old type, and the new type or its front.
+/// Returns `true` if a type was found that serves the old type, and also serves the new type or
+/// reads a prefix of its messages.
 fn never_misreads(alloc: Global, old: &Schema, new: &Schema) -> Result<bool, AllocError>
     ensures { IfOk result
         (λ yes. yes ≡ true → NeverMisreads (type_of new.now) (type_of old.now)) }
@@ -284,8 +285,8 @@ fn search(
     Ok(best)
 }
 
-/// Returns how good an example is. One that the new type reads as the same is none, unless a name
-/// stands at another place.
+/// Returns how good an example is. If no name moved, a message that the new type reads as the same
+/// is no example.
 fn rank_of(outcome: Outcome, moved: bool) -> usize {
     match outcome {
         Outcome::Left => 1,
@@ -295,7 +296,7 @@ fn rank_of(outcome: Outcome, moved: bool) -> usize {
     }
 }
 
-/// Returns how good an example is wanted.
+/// Returns how good an example has to be to end the search.
 fn wanted(relation: Relation, moved: bool) -> usize {
     if moved {
         return 3;
@@ -308,8 +309,8 @@ fn wanted(relation: Relation, moved: bool) -> usize {
     }
 }
 
-/// Returns `true` if the example has fewer bytes. Of those that are read as the same the first one
-/// leads to the name that stands at another place.
+/// Returns `true` if the example has fewer bytes. Of the examples that are read as the same, the
+/// first one is kept, since it leads to a name that moved.
 fn is_shorter(example: &Example, best: &Option<Example>, outcome: Outcome) -> bool {
     let Some(best) = best else {
         return false;

@@ -8,7 +8,7 @@ ghost use Rattle.postcard_compat.specs.{leaf, part_types, row_of, type_of};
 use postcard_schema::{Integer, Leaf, Named, Schema};
 use std::alloc::{AllocError, Global};
 
-/// An array of more parts in all is kept as an array.
+/// The most parts of an array that is written out. An array of more parts is kept as an array.
 const MAX_PARTS: usize = 64;
 
 /// Returns a type of the same messages without nested groups.
@@ -49,7 +49,7 @@ fn boxed(alloc: Global, schema: &Schema) -> Result<Box<Schema>, AllocError>
     Ok(Box::new(alloc, flat)?)
 }
 
-/// Returns the row of a type as a struct, of one part, too. The part keeps its path so.
+/// Returns the row of a type as a struct, even if it has one part. So the part keeps its path.
 pub(crate) fn named_row(alloc: Global, schema: &Schema) -> Result<Schema, AllocError> {
     let row = flat_row(alloc, schema)?;
     Ok(Schema::Struct(row))

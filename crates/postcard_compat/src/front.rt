@@ -8,8 +8,8 @@ use crate::row::Row;
 use crate::serves;
 use postcard_schema::Schema;
 
-/// Returns `true` if each message of the old type begins with one of the new type, which says the
-/// beginning of what the old one says. `false` promises nothing.
+/// Returns `true` if each message of the old type begins with a message of the new type. The new
+/// message says the beginning of what the old one says. `false` promises nothing.
 ///
 /// The new type may lack the last parts of the old one. Each of its parts serves the one at its
 /// place.
@@ -27,8 +27,8 @@ pub fn serves_front(old: &Schema, new: &Schema) -> bool
     parts_begin(Row::of(old), Row::of(new))
 }
 
-/// Returns `true` if the old row is at least as long as the new one, and each part of the new row
-/// serves the old part at its place.
+/// Returns `true` if each part of the new row serves the part at its place in the old row. The old
+/// row may be longer.
 fn parts_begin(old: Row<'_>, new: Row<'_>) -> bool
     ensures { result ≡ true → AllServeFront (types_of (parts_of new.entry))
         (types_of (parts_of old.entry)) }

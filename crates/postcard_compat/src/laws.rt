@@ -1,4 +1,5 @@
-//! What follows if a type serves another one, as contracts of functions that do nothing.
+//! What follows if a type serves another one. Each law is the contract of a function that does
+//! nothing.
 
 ghost use Rattle.std.specs.Prelude.{◌≡◌, ◌++◌, ℕ, List};
 ghost use Rattle.postcard_compat.specs.{AllServeFront, MessageType, MessageTypes, Serves};
@@ -29,8 +30,8 @@ pub fn never_misread()
         → p ++ x ≡ q ++ y → (p ≡ q) × (said new s ≡ said old t) }
 {}
 
-/// Parts that serve the first ones of an old row serve its front. Each old message then begins with
-/// a new one, which says the beginning of what the old one says.
+/// If each new part serves the old part at its place, and the old row may be longer, each old
+/// message begins with a new message. The new message says the beginning of what the old one says.
 pub fn fronts()
     ensures none { (os : MessageTypes) → AllServeFront no_types os }
     ensures more { (n o : MessageType) (ns os : MessageTypes) → Serves n o → AllServeFront ns os

@@ -12,9 +12,9 @@
 //! the bytes. `specs/Said.antt` defines what a message says, and `specs/Serving.antt` when a type
 //! serves another. Names take no bytes, so these calls don't compare them.
 //!
-//! [`compare`] takes all of these steps. It returns a verdict, the [`differences`] with their paths,
-//! and an [`Example`]: a message of the old type, and what the new type makes of it. It compares names,
-//! too. `specs/Comparing.antt` defines what a verdict means.
+//! [`compare`] takes all of these steps. It returns a verdict, the [`differences`] with their
+//! paths, and an [`Example`]. An example is a message of the old type, and what the new type makes
+//! of it. This call compares names, too. `specs/Comparing.antt` defines what a verdict means.
 #![tactic(auto)]
 
 ghost use Rattle.std.specs.Prelude.{◌≡◌, true};
@@ -50,8 +50,8 @@ pub use word::{Word, words};
 /// message that says the same. `false` promises nothing.
 ///
 /// Integers may become wider, and an enum may have more variants. An option may become an enum: its
-/// first variant has no bytes, and its second variant has the value. Structs and tuples are compared
-/// by their parts. The rest of the two types must be equal.
+/// first variant has no bytes, and its second variant has the value. Structs and tuples are
+/// compared by their parts. All else in the two types must be equal.
 ///
 /// # Examples
 ///
@@ -101,7 +101,7 @@ pub fn serves(old: &Schema, new: &Schema) -> bool
     }
 }
 
-/// Returns `true` if each part has one at its place in the new row that serves it.
+/// Returns `true` if each old part is served by the part at its place in the new row.
 #[cycle(serves)]
 fn parts_serve(old: &Vec<Schema>, new: Row<'_>) -> bool
     ensures { result ≡ true → VariantsServe (types_of (parts_of new.entry))
@@ -118,7 +118,7 @@ fn parts_serve(old: &Vec<Schema>, new: Row<'_>) -> bool
     true
 }
 
-/// Returns `true` if each field or variant has one at its place in the new row that serves it.
+/// Returns `true` if each old field or variant is served by the part at its place in the new row.
 #[cycle(serves)]
 fn named_serve(old: &Vec<Named<Schema>>, new: Row<'_>) -> bool
     ensures { result ≡ true → VariantsServe (types_of (parts_of new.entry))

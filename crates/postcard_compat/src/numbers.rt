@@ -1,4 +1,4 @@
-//! Which type without parts reads what another one writes.
+//! Whether one type without parts reads what another one writes: [`leaf_serves`].
 
 ghost use Rattle.std.specs.Prelude.{◌≡◌, true};
 ghost use Rattle.postcard_compat.specs.{Serves, integer_leaf, leaf};

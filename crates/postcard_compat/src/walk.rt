@@ -42,8 +42,8 @@ pub fn differences(alloc: Global, old: &Schema, new: &Schema) -> Result<Changes,
     Ok(found)
 }
 
-/// Appends the differences of two parts. Returns `true` if what follows them stands at the same
-/// places, as do the functions below.
+/// Appends the differences of two parts. Returns `true` if the parts after them stand at the same
+/// places in both types. So do the functions below.
 #[cycle(walk)]
 fn walk<'a>(
     alloc: Global,
@@ -107,7 +107,7 @@ fn walk_fields<'a>(
     no_more(alloc, new, fields.len(), way, found)
 }
 
-/// Does so for parts to which another step leads.
+/// Does what [`walk`] does, for parts to which one more step leads.
 #[cycle(walk)]
 fn walk_inside<'a>(
     alloc: Global,

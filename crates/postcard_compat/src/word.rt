@@ -117,7 +117,8 @@ fn kind_of(word: &Word) -> u8
     }
 }
 
-/// Appends what the message says. The functions below do so, too, and fail as [`words`] does.
+/// Appends what the message says. The functions below do the same for one kind of type. They fail
+/// as [`words`] does.
 #[cycle(say)]
 fn say(
     alloc: Global,

@@ -1,4 +1,4 @@
--- The bytes of a number, as the program takes them from an array.
+-- The bytes of a number, which the program takes from an array of sixteen bytes.
 use Rattle.std.proofs.Common.{◌≡◌, ℕ, zero, suc, ◌/◌, ◌%◌, ◌^◌, ◌≤◌, List, ◌∷◌, take, refl, sym, ap, ap₂, ◌∙◌, pow-suc, div-one, arith}
 use Rattle.std.specs.Int.{w128, byte_at, bytes_low_first, to_le_bytes}
 use Rattle.std.proofs.Math.Nat.{div-div-eq-div-mul}
@@ -22,6 +22,6 @@ fewer zero k n h = refl
 fewer (suc j) zero n h = absurd (omega arith)
 fewer (suc j) (suc k) n h = ap (λ (bs : List ℕ). n % 256 ∷ bs) (fewer j k (n / 256) (omega arith))
 
--- The front of the sixteen bytes.
+-- The first j of the sixteen bytes are those of the number's low j bytes.
 pub front_bytes : (j n : ℕ) (bytes : List ℕ) → bytes ≡ to_le_bytes w128 n → j ≤ 16 → take j bytes ≡ low_bytes j n
 front_bytes j n bytes e h = ap (take j) (e ∙ by_places 16 0 n ∙ ap (low_bytes 16) (div-one n)) ∙ fewer j 16 n h

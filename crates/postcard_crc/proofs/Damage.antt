@@ -1,4 +1,4 @@
--- What was read to its end is a checked message, so that a burst is seen.
+-- Bytes that were read to their end are a message with its checksum, so a burst in them was refused.
 use Rattle.std.proofs.Common.{◌≡◌, ℕ, suc, ◌+◌, ◌-◌, ◌*◌, ◌<◌, List, [], ◌∷◌, ◌++◌, get_or, sym, ap, subst, ◌∙◌, append-nil, bit_xor, arith}
 use Rattle.crc.specs.Crc.{Parameters, message}
 use Rattle.crc.specs.Digest.{Progress, Took}

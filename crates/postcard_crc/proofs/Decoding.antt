@@ -1,4 +1,4 @@
--- What a buffer holds once the frame at its front was decoded in place.
+-- The content of a buffer after the frame at its start was decoded in place.
 use Rattle.std.proofs.Common.{◌≡◌, ℕ, ◌<◌, ◌≤◌, List, ◌++◌, length, take, drop, sym, ap, subst, ◌∙◌, arith, length-append}
 use Rattle.std.proofs.lemmas.List.{take_at, take-append-drop, take-take, length-take-le}
 use Rattle.std.specs.Prelude.{flat_map}
@@ -51,7 +51,7 @@ module _ (old : List ℕ) (d : DecodedFrame) (long : length d.all.now ≡ length
         has_data = ((λ _. none), (λ some. absurd (omega (arith, size, ends, some))));
       }
 
--- The data that was left lies in the front, and the front and the rest are the buffer.
+-- The decoded data lies in the first part of the buffer. The first part and the remaining bytes are the buffer.
 pub data_within : (old : List ℕ) (d : DecodedFrame) → IsDecodedFrame old d → d.data_len ≤ length (take d.frame_len d.all.now)
 data_within old d is =
     let size : length (take d.frame_len d.all.now) ≡ d.frame_len = length-take-le d.frame_len d.all.now is.within.1 in

@@ -10,7 +10,7 @@ use Rattle.postcard_wire.specs.declared.error.Error.{Error}
 use Rattle.postcard_wire.specs.declared.error.Error.TheVariants.{DeserializeUnexpectedEnd, DeserializeBadCrc}
 use Rattle.postcard_crc.specs.Source.{Finishes}
 
--- What follows the checksum of what the digest has taken, or the error.
+-- The bytes after the checksum of what the digest has taken, or the error.
 pub finishes : (k : ℕ) (left : List ℕ) (d : Progress) (crc : ℕ) (r : Result (Bor (List ℕ)) Error)
     → ((a : Parameters) (m : List ℕ) → Took d a m → IsCrc a m crc)
     → IfOk r (λ after. left ≡ low_bytes k crc ++ after.now)

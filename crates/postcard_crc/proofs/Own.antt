@@ -1,4 +1,4 @@
--- The own answer of a frame: which there is, and that it is that of the value that was sent.
+-- Which own answer a frame has, and that the answer to a sent frame is the value that was sent.
 use Rattle.std.proofs.Common.{◌≡◌, ◌+◌, ◌-◌, ◌*◌, ℕ, List, [], ◌++◌, refl, sym, subst, ◌∙◌, append-nil, arith, bit_xor}
 use Rattle.crc.specs.Crc.{Parameters, IsCrc, IsSound, message}
 use Rattle.crc.specs.Digest.{Progress, Took}
@@ -23,14 +23,14 @@ module _ {T : Type 0} (shape : Shape T) (k : ℕ) (a : Parameters) where
   pub refused_none : (f : List ℕ) → ((d : List ℕ) → Groups f d → ⊥) → IsRefused shape k a f
   refused_none f none still sound v o = none o.content o.decodes
 
-  -- If a call fails that succeeds for every message, unless memory runs out, the frame has no value.
+  -- Let a call succeed for every message if no allocation fails. If it fails, the frame has no value.
   pub refused_data : (d : List ℕ) (e : Error)
       → ((t : Tree) (front : List ℕ) (crc : ℕ) → shape.reads t → Spells t front → IsSound a → IsCrc a front crc → d ≡ front ++ low_bytes k crc → (e ≡ OutOfMemory) × Grows shape)
       → (f : List ℕ) → Groups f d → IsRefused shape k a f
   refused_data d e accepts f g still sound v o =
       still (accepts o.tree o.front o.crc o.is_read o.is_spelled sound o.is_crc (data_is_one f d o.content g o.decodes ∙ o.joins)).1
 
-  -- The value that a call read of the data is that of the frame.
+  -- The value that a call read from the data is the value of the frame.
   pub value_read : {V : Type 0} (see : V → T) (p : Progress) → Took p a [] → (d : List ℕ) (v : V)
       → ReadsChecked shape.reads (λ t w. shape.value t (see w)) k p d v []
       → (f : List ℕ) → Groups f d → IsValueOf shape k a f (see v)
@@ -47,7 +47,7 @@ module _ {T : Type 0} (shape : Shape T) (k : ℕ) (a : Parameters) where
     joins = r.joins ∙ append-nil (r.front ++ low_bytes k r.crc);
   }
 
-  -- A frame whose data is that of a value has a value that looks like it.
+  -- A frame with the data of a value has a value that equals it, as far as the shape tells values apart.
   pub same_value : (x v : T) (crc : ℕ) (f : List ℕ) → shape.fits x → Groups f (canonical (shape.tree x) ++ low_bytes k crc)
       → IsValueOf shape k a f v → shape.same v x
   same_value x v crc f fits g o =

@@ -6,7 +6,7 @@ use Rattle.crc.specs.Checked.{low_bytes}
 use Rattle.crc.proofs.CheckedLemmas.{length_low}
 use Rattle.postcard_ser_flavors.specs.Slice.{Written, Appended, HasRoom, Reaches}
 
--- What follows at every success from two facts holds at this one.
+-- If a success has the properties P and Q, what follows from both holds.
 pub at_success : {A E : Type 0} (P Q : A → Type 0) (R : Type 0) (r : Result A E) → IsOk r → IfOk r P → IfOk r Q → ((x : A) → P x → Q x → R) → R
 at_success P Q R (Ok x) ok p q follows = follows x p q
 at_success P Q R (Err e) ok p q follows = cc

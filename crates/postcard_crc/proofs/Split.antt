@@ -1,24 +1,24 @@
--- A message, cut where its checksum begins.
+-- A message and its checksum, cut where the checksum begins.
 use Rattle.std.proofs.Common.{◌≡◌, ℕ, ◌-◌, ◌<◌, ◌≤◌, List, ◌++◌, length, take, drop, ap, ◌∙◌, length-append, take_all, arith}
 use Rattle.std.proofs.lemmas.List.{take-append-le}
 use Rattle.std.proofs.Math.Seq.{drop-append_seam}
 use Rattle.crc.specs.Checked.{low_bytes}
 use Rattle.crc.proofs.CheckedLemmas.{length_low}
 
--- The bytes before the rest.
+-- The bytes before `rest` are `front`.
 pub front_of : (bytes front rest : List ℕ) → bytes ≡ front ++ rest → take (length bytes - length rest) bytes ≡ front
 front_of bytes front rest e =
     let n : length bytes - length rest ≡ length front = omega (arith, ap length e, length-append front rest) in
     let le : length front ≤ length front = omega arith in
     ap (λ k. take k bytes) n ∙ ap (take (length front)) e ∙ take-append-le (length front) front rest le ∙ take_all (length front) front le
 
--- If the rest is some bytes and then others, it begins with the first,
+-- If `rest` is the bytes `wanted` and then the bytes `after`, it begins with `wanted`,
 pub begins_with : (wanted after rest : List ℕ) → rest ≡ wanted ++ after → take (length wanted) rest ≡ wanted
 begins_with wanted after rest e =
     let le : length wanted ≤ length wanted = omega arith in
     ap (take (length wanted)) e ∙ take-append-le (length wanted) wanted after le ∙ take_all (length wanted) wanted le
 
--- and the others follow.
+-- and `after` follows.
 pub follows : (wanted after rest : List ℕ) → rest ≡ wanted ++ after → drop (length wanted) rest ≡ after
 follows wanted after rest e = ap (drop (length wanted)) e ∙ drop-append_seam wanted after
 

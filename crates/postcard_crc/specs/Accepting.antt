@@ -11,8 +11,9 @@ use Rattle.postcard_wire.specs.declared.error.Error.TheVariants.{OutOfMemory, De
 use Rattle.postcard_shape.specs.Shape.{Shape, Grows}
 
 module _ {V : Type 0} (shape : Shape V) (k : ℕ) (d : Progress) (bytes : List ℕ) where
-  -- Let a front of the bytes spell a tree that is read, and the k bytes of its checksum, by what the digest d has taken, and then `rest`
-  -- follow. The call returns a value of that tree and the rest. A type that grows may run out of memory.
+  -- Let a prefix of the bytes encode a tree of the type. Let the k bytes of its checksum follow, and then `rest`. The checksum is that of
+  -- what the digest d has taken and the prefix. The call returns a value of that tree and `rest`. A type that allocates may run out of
+  -- memory.
   abbrev pub AcceptsFrontAndRest : Result (V × Bor (List ℕ)) Error → Type 0
   AcceptsFrontAndRest r = (t : Tree) (a : Parameters) (m front rest : List ℕ) (crc : ℕ)
       → shape.reads t → Spells t front → IsSound a → Took d a m
@@ -20,8 +21,7 @@ module _ {V : Type 0} (shape : Shape V) (k : ℕ) (d : Progress) (bytes : List �
       MatchResult r (λ read. shape.value t read.0 × (read.1.now ≡ rest))
       (λ e. (e ≡ OutOfMemory) × Grows shape)
 
-  -- The encoding of a value that fits, which its checksum follows, reads back as a value that looks like it, with the
-  -- rest.
+  -- The encoding of a value that fits, with its checksum after it, reads back as an equal value, with the remaining bytes.
   abbrev pub ReadsBackFrontAndRest : Result (V × Bor (List ℕ)) Error → Type 0
   ReadsBackFrontAndRest r = (x : V) (a : Parameters) (m rest : List ℕ) (crc : ℕ)
       → shape.fits x → IsSound a → Took d a m
@@ -30,14 +30,14 @@ module _ {V : Type 0} (shape : Shape V) (k : ℕ) (d : Progress) (bytes : List �
       MatchResult r (λ read. shape.same read.0 x × (read.1.now ≡ rest))
       (λ e. (e ≡ OutOfMemory) × Grows shape)
 
-  -- As `AcceptsFrontAndRest`, of a call that ignores the rest.
+  -- As `AcceptsFrontAndRest`, for a call that ignores the remaining bytes.
   abbrev pub AcceptsFront : Result V Error → Type 0
   AcceptsFront r = (t : Tree) (a : Parameters) (m front rest : List ℕ) (crc : ℕ)
       → shape.reads t → Spells t front → IsSound a → Took d a m
       → IsCrc a (m ++ front) crc → bytes ≡ front ++ (low_bytes k crc ++ rest) →
       MatchResult r (λ value. shape.value t value) (λ e. (e ≡ OutOfMemory) × Grows shape)
 
-  -- As `ReadsBackFrontAndRest`, of a call that ignores the rest.
+  -- As `ReadsBackFrontAndRest`, for a call that ignores the remaining bytes.
   abbrev pub ReadsBackFront : Result V Error → Type 0
   ReadsBackFront r = (x : V) (a : Parameters) (m rest : List ℕ) (crc : ℕ)
       → shape.fits x → IsSound a → Took d a m
@@ -60,7 +60,7 @@ module _ {V : Type 0} (shape : Shape V) (k : ℕ) (d : Progress) (bytes : List �
       → bytes ≡ canonical (shape.tree x) ++ low_bytes k crc →
       MatchResult r (λ value. shape.same value x) (λ e. (e ≡ OutOfMemory) × Grows shape)
 
-  -- If bytes follow the checksum, the error is `DeserializeBadEncoding`, unless memory runs out for a type that grows.
+  -- If bytes follow the checksum, the error is `DeserializeBadEncoding`. A type that allocates may also run out of memory.
   abbrev pub RefusesMore : Result V Error → Type 0
   RefusesMore r = (t : Tree) (a : Parameters) (m front rest : List ℕ) (crc : ℕ)
       → shape.reads t → Spells t front → IsSound a → Took d a m

@@ -11,7 +11,7 @@ use Rattle.postcard_accumulator.specs.declared.answers.Answer.TheVariants.{OverF
 use Rattle.postcard_accumulator.specs.declared.answers.Answer.TheVariants.{Success}
 use Rattle.postcard_crc.specs.Own.{IsOwn}
 
--- The answer is a value that looks like x; or `DeserError`, if its type grows: memory was refused.
+-- The answer is a value that equals x. If the type allocates, it may be `DeserError` since an allocation failed.
 abbrev pub Arrives : {T : Type 0} → Shape T → T → Answer T → Type 0
 Arrives shape x (Success v) = shape.same v x
 Arrives shape x DeserError = ¬ ¬ Grows shape
@@ -25,8 +25,8 @@ MessageArrives {T} shape =
     → Groups frame (canonical (shape.tree x) ++ low_bytes k crc) → IsOwn shape k a frame answer
     → Arrives shape x answer
 
--- Let the data of a frame be that of a value that fits, with its checksum, and at most `width` bits in a row be changed. If the frame's own
--- answer is a value, nothing was changed, and the value looks like the one that was sent.
+-- Let a frame's data be the encoding of a value that fits, with its checksum. Let bits of the data be changed, all within `width` bits in a
+-- row. If the frame's own answer is a value, nothing was changed, and the value equals the one that was sent.
 abbrev pub DamageRefused : {T : Type 0} → Shape T → Type 0
 DamageRefused {T} shape =
     (k : ℕ) (a : Parameters) (x v : T) (crc : ℕ) (frame came : List ℕ) → shape.fits x

@@ -1,4 +1,4 @@
--- What a decoding call with a checksum returns for the frame at the front of its buffer.
+-- What a decoding call with a checksum returns for the frame at the start of its buffer.
 use Rattle.std.specs.Prelude.{◌≡◌, ◌⊎◌, ℕ, List, [], ◌++◌, Result, IfOk, IfErr, IsErrOf, OnOk, MatchResult}
 use Rattle.crc.specs.Crc.{Parameters, IsCrc, IsSound}
 use Rattle.crc.specs.Digest.{Progress, Took}
@@ -15,14 +15,14 @@ use Rattle.postcard_frame.specs.Frame.{HasNoData}
 use Rattle.postcard_crc.specs.Reading.{ReadsFrameChecked, HasExactErrors, IsDamaged}
 
 module _ {V : Type 0} (shape : Shape V) (k : ℕ) (d : Progress) (frame : List ℕ) (r : Result V Error) where
-  -- The call succeeds if the frame's data is a front that spells a tree that the type reads, followed by
-  -- the k bytes of its checksum. The digest d has taken what comes before.
+  -- The call succeeds if the frame's data is an accepted encoding of the type, followed by the k bytes of its checksum. The checksum also
+  -- covers what the digest d has taken before.
   abbrev pub AcceptsChecked : Type 0
   AcceptsChecked = (t : Tree) (a : Parameters) (m front : List ℕ) (crc : ℕ) → shape.reads t → Spells t front
       → IsSound a → Took d a m → IsCrc a (m ++ front) crc → Groups frame (front ++ low_bytes k crc)
       → MatchResult r (λ v. shape.value t v) (λ e. (e ≡ OutOfMemory) × Grows shape)
 
-  -- A value that fits, with its checksum in a frame, reads back as a value that looks like it.
+  -- A value that fits, with its checksum in a frame, reads back as an equal value.
   abbrev pub ReadsBackChecked : Type 0
   ReadsBackChecked = (x : V) (a : Parameters) (m : List ℕ) (crc : ℕ) → shape.fits x → IsSound a
       → Took d a m → IsCrc a (m ++ canonical (shape.tree x)) crc

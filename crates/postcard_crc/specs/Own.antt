@@ -10,8 +10,7 @@ use Rattle.postcard_accumulator.specs.declared.answers.Answer.{Answer}
 use Rattle.postcard_accumulator.specs.declared.answers.Answer.TheVariants.{OverFull, DeserError}
 use Rattle.postcard_accumulator.specs.declared.answers.Answer.TheVariants.{Success}
 
--- The frame's data is the spelling of a tree that the type reads, and then just its checksum in k
--- bytes; v is that tree's value.
+-- The frame's data is an accepted encoding of a tree of the type, and then just its checksum in k bytes. v is the value of that tree.
 pub record IsValueOf {T : Type 0} (shape : Shape T) (k : ℕ) (a : Parameters) (frame : List ℕ) (v : T)
     : Type 0 where
   pub content : List ℕ
@@ -25,8 +24,8 @@ pub record IsValueOf {T : Type 0} (shape : Shape T) (k : ℕ) (a : Parameters) (
   pub is_crc : IsCrc a front crc
   pub joins : content ≡ front ++ low_bytes k crc
 
--- The frame has no such value. For a type that grows nothing is said, since an allocation may have
--- failed, nor for an algorithm that isn't sound.
+-- The frame has no such value. Of a type that allocates this says nothing, since an allocation may have failed. Nor does it of an algorithm
+-- that isn't sound.
 abbrev pub IsRefused : {T : Type 0} → Shape T → ℕ → Parameters → List ℕ → Type 0
 IsRefused {T} shape k a frame = ¬ Grows shape → IsSound a → (v : T) → IsValueOf shape k a frame v → ⊥
 

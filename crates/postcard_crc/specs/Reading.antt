@@ -20,8 +20,8 @@ pub record IsWithCrc (k : ℕ) (d : Progress) (bytes output : List ℕ) : Type 0
   pub is_crc : IsCrcAfter d bytes crc
   pub joins : output ≡ bytes ++ low_bytes k crc
 
--- A front of the bytes spells a tree that is read, and is followed by the k bytes of its checksum.
--- The value of the tree is v, and `rest` is the bytes after the checksum.
+-- A prefix of the bytes encodes a tree of the type, and the k bytes of its checksum follow. The value of the tree is v, and `rest` is the
+-- bytes after the checksum.
 pub record ReadsChecked {V : Type 0} (reads : Tree → Type 0) (value : Tree → V → Type 0)
     (k : ℕ) (d : Progress) (bytes : List ℕ) (v : V) (rest : List ℕ) : Type 0 where
   pub tree : Tree
@@ -33,7 +33,7 @@ pub record ReadsChecked {V : Type 0} (reads : Tree → Type 0) (value : Tree →
   pub is_crc : IsCrcAfter d front crc
   pub joins : bytes ≡ front ++ low_bytes k crc ++ rest
 
--- A front of the bytes spells a tree that is read, and fewer than k bytes follow it.
+-- A prefix of the bytes encodes a tree of the type, and fewer than k bytes follow it.
 pub record IsCutShort (reads : Tree → Type 0) (k : ℕ) (bytes : List ℕ) : Type 0 where
   pub tree : Tree
   pub front : List ℕ
@@ -43,8 +43,8 @@ pub record IsCutShort (reads : Tree → Type 0) (k : ℕ) (bytes : List ℕ) : T
   pub joins : bytes ≡ front ++ rest
   pub short : length rest < k
 
--- A front of the bytes spells a tree that is read, and k bytes or more follow it, but not first the
--- checksum of m and then the front.
+-- A prefix of the bytes encodes a tree of the type, and k bytes or more follow it. They don't begin with the checksum of m and then the
+-- prefix.
 pub record HasOtherCrc (reads : Tree → Type 0) (k : ℕ) (a : Parameters) (m bytes : List ℕ) : Type 0 where
   pub tree : Tree
   pub front : List ℕ
@@ -61,9 +61,9 @@ module _ (reads : Tree → Type 0) (grows : Type 0) (k : ℕ) (d : Progress) (by
     pub not_short : IsCutShort reads k bytes → ⊥
     pub not_other : (a : Parameters) (m : List ℕ) → Took d a m → HasOtherCrc reads k a m bytes → ⊥
 
-  -- The error is `DeserializeUnexpectedEnd` if fewer bytes than a checksum follow the value, and
-  -- `DeserializeBadCrc` if and only if as many follow and are not its checksum; unless an allocation
-  -- fails. If there is a value, `DeserializeUnexpectedEnd` comes only if fewer bytes follow it.
+  -- If no allocation fails: the error is `DeserializeUnexpectedEnd` if fewer bytes than a checksum follow the value. It is
+  -- `DeserializeBadCrc` if and only if enough bytes follow and aren't its checksum. If there is a value, `DeserializeUnexpectedEnd` comes
+  -- only if fewer bytes follow it.
   pub record IsFaultOf (e : Error) : Type 0 where
     pub short : IsCutShort reads k bytes → (e ≡ DeserializeUnexpectedEnd) ⊎ ((e ≡ OutOfMemory) × grows)
     pub only_short : e ≡ DeserializeUnexpectedEnd → (t : Tree) (front rest : List ℕ) → reads t
@@ -90,7 +90,7 @@ pub record IsDamaged (k : ℕ) (a : Parameters) (sent came : List ℕ) : Type 0 
   pub length : length sent ≡ length came
   pub burst : IsBurst a.width (bit_xor (message true sent) (message true came))
 
--- The frame's data is a front that spells a tree that is read, and then just its checksum.
+-- The frame's data is an accepted encoding of the type, and then just its checksum.
 pub record ReadsFrameChecked {V : Type 0} (reads : Tree → Type 0) (value : Tree → V → Type 0)
     (k : ℕ) (d : Progress) (frame : List ℕ) (v : V) : Type 0 where
   pub content : List ℕ

@@ -10,7 +10,7 @@ use Rattle.postcard_wire.specs.declared.error.Error.TheVariants.{DeserializeUnex
 use Rattle.postcard_de_flavors.specs.Source.{known, Laws}
 use Rattle.postcard_crc.specs.Writing.{Continues, continues_none, continues_join}
 
--- A call took some of the bytes left, and the digest with them.
+-- A call took some of the remaining bytes, and the digest took the same bytes.
 pub record TookBoth (left : List ℕ) (d : Progress) (left' : List ℕ) (d' : Progress) : Type 0 where
   pub bytes : List ℕ
   pub joins : left ≡ bytes ++ left'
@@ -33,7 +33,7 @@ pub record Follows (k : ℕ) (left : List ℕ) (d : Progress) : Type 0 where
   pub is_crc : IsCrc algorithm taken crc
   pub joins : left ≡ low_bytes k crc ++ rest
 
--- What `finalize` returns: the rest, or which error. It succeeds if the checksum follows.
+-- The result of `finalize`: the bytes after the checksum, or an error. It succeeds if the checksum follows.
 abbrev pub Finishes : ℕ → List ℕ → Progress → Result (Bor (List ℕ)) Error → Type 0
 Finishes k left d r = MatchResult r (λ rest. IsRest k left d rest.now)
     (λ e. ((e ≡ DeserializeUnexpectedEnd) × (length left < k))

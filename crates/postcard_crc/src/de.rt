@@ -20,13 +20,13 @@ mod modifier;
 pub use cobs::from_bytes_cobs;
 pub use modifier::CrcModifier;
 
-/// Decodes a value from the front of `bytes`, which its checksum follows, and returns it with the
-/// bytes after the checksum. The checksum is that of what `digest` has taken, and then the bytes of
-/// the value.
+/// Decodes a value and its checksum from the start of `bytes`, and returns the value with the
+/// remaining bytes. The checksum is that of what `digest` has taken, and then the bytes of the
+/// value.
 ///
-/// It succeeds if and only if a front of `bytes` spells a tree that the type reads, the bytes of
-/// its checksum follow, and no allocation fails. Only a success with no bytes after the checksum
-/// says anything about damage: see [`from_bytes_whole`].
+/// It succeeds if and only if a prefix of `bytes` encodes a tree of the type, its checksum follows,
+/// and no allocation fails. A success with bytes after the checksum says nothing about damage: see
+/// [`from_bytes_whole`].
 ///
 /// # Errors
 ///
@@ -119,8 +119,8 @@ pub fn from_bytes_whole<'a, T: Deserialize<'a>, W: Width, I: Implementation<W>>(
     }
 }
 
-/// Returns the bytes after the checksum with which `rest` begins: that of what the digest has
-/// taken, and then the bytes before `rest`. Fails as [`after_trailer`] does.
+/// Returns the bytes after the checksum with which `rest` begins. The checksum is that of what the
+/// digest has taken, and then the bytes before `rest`. Fails as [`after_trailer`] does.
 fn checked<'a, W: Width, I: Implementation<W>>(
     bytes: &'a [u8],
     rest: &'a [u8],
@@ -172,8 +172,8 @@ fn after_checksum<W: Width>(rest: &[u8], crc: W) -> Result<&[u8]>
 }
 
 /// Returns the bytes after the checksum `trailer` with which `rest` begins. Fails with
-/// `DeserializeUnexpectedEnd` if `rest` has fewer bytes than that, and with `DeserializeBadCrc` if
-/// it begins with others.
+/// `DeserializeUnexpectedEnd` if `rest` has fewer bytes than `trailer`. Fails with
+/// `DeserializeBadCrc` if it begins with other bytes.
 fn after_trailer<'a>(rest: &'a [u8], trailer: &[u8]) -> Result<&'a [u8]>
     requires { length trailer.now ≤ length rest.now }
     ensures gives { IfOk result (λ after. rest.now ≡ trailer.now ++ after.now) }
@@ -189,14 +189,16 @@ fn after_trailer<'a>(rest: &'a [u8], trailer: &[u8]) -> Result<&'a [u8]>
     }
 }
 
-/// Is `rest.is_empty()`; apart for its clause, which the proofs cite.
+/// Returns `rest.is_empty()`. It is a function of its own for the prover: the proofs cite its
+/// clause.
 fn is_end(rest: &[u8]) -> bool
     ensures { IsTrue result ↔ (rest.now ≡ []) }
 {
     rest.is_empty()
 }
 
-/// Is `found == wanted`; apart for its clause, which the proofs cite.
+/// Returns `found == wanted`. It is a function of its own for the prover: the proofs cite its
+/// clause.
 fn are_same(found: &[u8], wanted: &[u8]) -> bool
     ensures { IsTrue result ↔ (found.now ≡ wanted.now) }
 {

@@ -1,6 +1,6 @@
-//! The reading flavor that checks a checksum, and the calls that decode messages with one, under
-//! the Rust crate's names for each width. The width is that of the digest, so the names of a call
-//! are one function.
+//! The reading flavor that checks a checksum, and the calls that decode messages with one. They
+//! have the Rust crate's names for each width. The digest determines the width, so all names of a
+//! call stand for one function.
 
 pub use crate::de::{
     CrcModifier, from_bytes as from_bytes_u8, from_bytes as from_bytes_u16,

@@ -1,9 +1,9 @@
-//! Frames with a checksum, from a stream: the accumulator of `postcard_accumulator` decodes them,
-//! and the checksum after each value is checked before the value is handed out.
+//! Frames with a checksum, from a stream. The accumulator of `postcard_accumulator` decodes them.
+//! The checksum after each value is checked before the value is returned.
 //!
-//! A frame's data is the encoding of a value, and then just its checksum in as many bytes as the
-//! checksum's type has, the lowest first, as `to_slice_cobs` writes it. A frame whose data is
-//! anything else has the answer `DeserError`. In all else the answers of a stream are as in
+//! A frame's data is the encoding of a value, and then just its checksum, as `to_slice_cobs` writes
+//! it. The checksum has all bytes of its type, the lowest first. A frame whose data is anything
+//! else has the answer `DeserError`. Otherwise the answers of a stream are as in
 //! `postcard_accumulator` (`specs/Own.antt`).
 
 mod feeding;

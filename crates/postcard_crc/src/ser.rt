@@ -17,8 +17,8 @@ mod modifier;
 pub use cobs::{to_allocvec_cobs, to_slice_cobs};
 pub use modifier::CrcModifier;
 
-/// Encodes a value into a flavor, and its checksum after it, ends the flavor, and returns its
-/// output. The checksum is that of what `digest` has taken, and then the encoding.
+/// Encodes a value and then its checksum into a flavor, ends the flavor, and returns its output.
+/// The checksum is that of what `digest` has taken, and then the encoding.
 ///
 /// # Errors
 ///
@@ -51,8 +51,8 @@ pub fn serialize_with_checksum<
     }
 }
 
-/// Encodes a value into the first bytes of `buf`, and its checksum after it, and returns these
-/// bytes. Nothing is allocated.
+/// Encodes a value and then its checksum into the first bytes of `buf`, and returns these bytes.
+/// Nothing is allocated.
 ///
 /// # Errors
 ///
@@ -79,8 +79,8 @@ pub fn to_slice<'a, T: Serialize, W: Width, I: Implementation<W>>(
     serialize_with_checksum(value, Slice::new(buf), digest)
 }
 
-/// Encodes a value into an `ArrayVec` with room for `B` bytes, and its checksum after it, and
-/// returns it. Nothing is allocated.
+/// Encodes a value and then its checksum into an `ArrayVec` with room for `B` bytes, and returns
+/// the `ArrayVec`. Nothing is allocated.
 ///
 /// # Errors
 ///
@@ -97,7 +97,7 @@ pub fn to_vec<T: Serialize, W: Width, I: Implementation<W>, const B: usize>(
     serialize_with_checksum(value, HVec::new(), digest)
 }
 
-/// Encodes a value into a new `Vec`, and its checksum after it.
+/// Encodes a value and then its checksum into a new `Vec`.
 ///
 /// # Errors
 ///

@@ -1,5 +1,5 @@
-//! The writing flavor that adds a checksum, and the calls over it, under the Rust crate's names for
-//! each width. The width is that of the digest, so the names of a call are one function.
+//! The writing flavor that adds a checksum, and the calls over it. They have the Rust crate's names
+//! for each width. The digest determines the width, so all names of a call stand for one function.
 
 pub use crate::ser::{
     CrcModifier, serialize_with_checksum, to_allocvec as to_allocvec_u8,

@@ -65,9 +65,11 @@ of_few n d = record { has = IsFewSeq n d.has; message = seq d.message; exact = �
 abbrev pub of_array : ℕ → Described → Described
 of_array n d = record { has = IsArray n d.has; message = array n d.message; exact = d.exact; within = array_within n d.within }
 
+-- The row without parts.
 abbrev pub no_parts : RowDescribed
 no_parts = record { has = IsEnd; messages = []; exact = ⊤; within = end_within }
 
+-- A part followed by a row.
 abbrev pub part_then : Described → RowDescribed → RowDescribed
 part_then d r = record { has = IsThen d.has r.has; messages = d.message ∷ r.messages; exact = d.exact × r.exact; within = then_within d.within r.within }
 
@@ -75,18 +77,23 @@ part_then d r = record { has = IsThen d.has r.has; messages = d.message ∷ r.me
 abbrev pub flat_then : RowDescribed → RowDescribed → RowDescribed
 flat_then d r = record { has = IsThen (IsGroup d.has) r.has; messages = d.messages ++ r.messages; exact = d.exact × r.exact; within = flat_within d.messages r.messages d.within r.within }
 
+-- The group of the parts of a row.
 abbrev pub of_parts : RowDescribed → Described
 of_parts r = record { has = IsGroup r.has; message = group (row_of r.messages); exact = r.exact; within = group_within r.within }
 
+-- No variants.
 abbrev pub no_cases : CasesDescribed
 no_cases = record { has = λ i t. ⊥; messages = []; exact = ⊤; within = λ i. itself }
 
+-- A variant followed by others.
 abbrev pub case_then : Described → CasesDescribed → CasesDescribed
 case_then d r = record { has = case_reads d.has r.has; messages = d.message ∷ r.messages; exact = d.exact × r.exact; within = case_within d.message (row_of r.messages) d.within r.within }
 
+-- The enum of these variants.
 abbrev pub of_cases : CasesDescribed → Described
 of_cases r = record { has = IsVariant r.has; message = choice (row_of r.messages); exact = r.exact; within = variants_within r.within }
 
+-- The enum with the variants `Ok` and `Err`.
 abbrev pub of_result : Described → Described → Described
 of_result d e = record { has = IsVariant (ResultReads d.has e.has); message = choice (row_of (d.message ∷ e.message ∷ [])); exact = d.exact × e.exact; within = variants_within (result_within d.message e.message d.within e.within) }
 
@@ -109,6 +116,7 @@ unit_back zero i t r = absurd r
 unit_back (suc n) zero t r = (omega arith, r)
 unit_back (suc n) (suc i) t r = let k = unit_back n i t r in (omega (arith, k.0), k.1)
 
+-- The trees of n variants without content are those of n units.
 pub units_within : (n i : ℕ) → Within ⊤ (IsUnit n i) (reads_at (row_of (units n)) i)
 units_within n i = record { inside = λ t r. (t, unit_there n i t r, same_tree t); all = λ _ t r. (t, unit_back n i t r, same_tree t) }
 

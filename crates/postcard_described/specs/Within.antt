@@ -1,12 +1,13 @@
--- When the same bytes spell the trees of two sets.
+-- Two sets of trees that have the same encodings, or of which one has those of the other.
 use Rattle.std.specs.Prelude.{⊤}
 use Rattle.postcard_wire.specs.Tree.{Tree, Trees}
 use Rattle.postcard_described.specs.SameBytes.{SameBytes, SameRow, same_tree, same_row}
 
--- Each tree of the first set has one of the second that the same bytes spell.
+-- Each tree of the first set has one of the second that the same bytes encode.
 abbrev pub Covered : (Tree → Type 0) → (Tree → Type 0) → Type 0
 Covered F G = (t : Tree) → F t → (u : Tree) × G u × SameBytes t u
 
+-- The same of sets of rows.
 abbrev pub RowCovered : (Trees → Type 0) → (Trees → Type 0) → Type 0
 RowCovered K L = (ts : Trees) → K ts → (us : Trees) × L us × SameRow ts us
 
@@ -15,6 +16,7 @@ pub record Within (exact : Type 0) (few many : Tree → Type 0) : Type 0 where
   pub inside : Covered few many
   pub all : exact → Covered many few
 
+-- The same of sets of rows.
 pub record RowWithin (exact : Type 0) (few many : Trees → Type 0) : Type 0 where
   pub inside : RowCovered few many
   pub all : exact → RowCovered many few
@@ -57,5 +59,6 @@ within_same s w = record { inside = same_covered s w.inside; all = λ e. covered
 map_covered : {F G H : Tree → Type 0} → ((t : Tree) → F t → G t) → Covered G H → Covered F H
 map_covered h c t f = c t (h t f)
 
+-- A subset of a covered set is covered.
 pub some_within : {e : Type 0} {F G H : Tree → Type 0} → ((t : Tree) → F t → G t) → Within e G H → Within ⊥ F H
 some_within h w = some_of (map_covered h w.inside)

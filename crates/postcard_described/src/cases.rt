@@ -1,4 +1,4 @@
-//! The schemas of variants in a row, as which enums are written.
+//! The schemas of the variants of enums. An impl gives an enum as its variants in a row.
 
 ghost use Rattle.std.specs.Prelude.{◌≡◌, ◌++◌, ℕ, length, map, IfErr, IfOk, OnOk};
 ghost use Rattle.postcard_described.specs.{alike, case_same, case_then, choice, contents, no_cases};
@@ -23,7 +23,8 @@ pub trait SchemaCases: Cased {
     /// What [`HasSchema`] says of a type, said of the content at each index.
     ghost described: { CasesDescribed };
 
-    /// Appends the schemas of the variants with these names. A variant without one has an empty name.
+    /// Appends the schemas of the variants with these names. A variant past the last name has an
+    /// empty name.
     fn push_cases(
         alloc: Global,
         names: &[VariantName<'_>],

@@ -1,4 +1,4 @@
-//! Laws of schemas, as contracts of functions that do nothing.
+//! Laws of schemas. Each law is the contract of a function that does nothing.
 
 ghost use Rattle.std.specs.Prelude.{ℕ, List};
 ghost use Rattle.postcard_described.specs.{reads};
@@ -6,7 +6,8 @@ ghost use Rattle.postcard_described.specs.Messages.{IsMessage};
 
 use crate::schema::HasSchema;
 
-/// The messages of a type are messages of its schema and, if it is exact, the other way round.
+/// The messages of a type are messages of its schema. If the type is exact, the messages of the
+/// schema are those of the type.
 pub fn same_messages<T: HasSchema>()
     ensures inside { (p : List ℕ) → IsMessage T.shape.reads p
         → IsMessage (reads T.described.message) p }

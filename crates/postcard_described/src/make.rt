@@ -71,7 +71,7 @@ pub fn group_schema(alloc: Global, names: &[&str], parts: Vec<Schema>) -> Result
     Ok(Schema::Struct(with_names(alloc, names, parts)?))
 }
 
-/// Returns the schemas with these names, of which there are as many.
+/// Returns the schemas with these names, one name for each schema.
 fn with_names(alloc: Global, names: &[&str], parts: Vec<Schema>) -> Result<Vec<Named<Schema>>>
     ensures parts { IfOk result (λ fields. contents fields.items ≡ parts.items) }
     ensures named { length names.now ≡ length parts.items

@@ -1,4 +1,4 @@
-//! The schemas of parts in a row, as which tuples are written.
+//! The schemas of parts in a row. An impl gives a tuple or a struct as its parts in a row.
 
 ghost use Rattle.std.specs.Prelude.{◌≡◌, ◌<◌, ◌+◌, ◌++◌, [], length, map, IfErr, IfOk, OnOk};
 ghost use Rattle.postcard_described.specs.{end_same, group, group_same, no_parts, of_parts, part_then};
@@ -51,8 +51,8 @@ impl<A: HasSchema, R: SchemaParts> SchemaParts for Part<A, R> {
     ghost same = { then_same A.same R.same };
 }
 
-/// Returns the schema of parts in a row: of a struct with these names if there is a name for each,
-/// and else of a tuple.
+/// Returns the schema of parts in a row: that of a struct if there is a name for each part, and
+/// else that of a tuple.
 pub fn parts_schema<P: SchemaParts>(alloc: Global, names: &[&str]) -> Result<Schema>
     ensures typed { IfOk result (λ schema. type_of schema ≡ group (row_of P.described.messages)) }
     ensures named { 0 < length names.now → length names.now ≡ length P.described.messages

@@ -12,12 +12,12 @@ use std::alloc::Global;
 
 /// A type that has a schema.
 pub trait HasSchema: Shaped {
-    /// The type of its messages, and the law: each tree that the type reads is one of its schema
-    /// and, if it is exact, the other way round.
+    /// The type of its messages, and the law: each tree that the type reads is a tree of its
+    /// schema. If the type is exact, it reads each tree of its schema.
     ghost described: { Described };
 
-    /// Returns the schema. If the type is written as a tuple of as many parts as there are names,
-    /// it is that of a struct with these names.
+    /// Returns the schema. If the type is written as a tuple and there is a name for each part, it
+    /// is the schema of a struct with these names.
     ///
     /// # Errors
     ///

@@ -1,4 +1,4 @@
-//! Laws of device and host, as contracts of functions that do nothing.
+//! Laws of device and host. Each law is the contract of a function that does nothing.
 
 ghost use Rattle.std.specs.Prelude.{◌≡◌, ◌++◌, ℕ, List, IfOk};
 ghost use Rattle.postcard_described_host.specs.{Agree, HostReads, HostTakes, TakesFromBytes};
@@ -6,9 +6,9 @@ ghost use Rattle.postcard_described_host.specs.{Reading, Value, canonical, tree}
 
 use postcard_described::HasSchema;
 
-/// A host that has only the schema reads what a device reads that has the type. Both are given the
-/// same bytes. If the device returns a value, they agree. If the type is exact, they always agree:
-/// what the device refuses, the host refuses.
+/// A host that has only the schema reads what a device with the type reads. Both get the same
+/// bytes. If the device returns a value, they agree. If the type is exact, they always agree: what
+/// the device refuses, the host refuses.
 pub fn host_reads<T: HasSchema>()
     ensures agree_on_values { (bytes : List ℕ) (device : Reading T) (host : Reading Value)
         → TakesFromBytes T.shape bytes device → HostTakes T.described.message bytes host
@@ -19,8 +19,8 @@ pub fn host_reads<T: HasSchema>()
         → Agree T.shape device host }
 {}
 
-/// What a device writes, a host that has only the schema reads as a value of the same tree, whether
-/// the type is exact or not. It leaves the bytes that follow. If the host writes the value back, it
+/// What a device writes, a host that has only the schema reads as a value of the same tree. The
+/// type need not be exact. The host leaves the bytes that follow. If it writes the value back, it
 /// writes the same bytes.
 pub fn host_reads_written<T: HasSchema>()
     ensures same_tree { (v : T) (bytes rest : List ℕ) (host : Reading Value)

@@ -24,7 +24,7 @@ pub struct Readings<'a, T> {
 ///
 /// # Errors
 ///
-/// Fails with `OutOfMemory` if there is no memory for the schema. An error of either reader stands
+/// Fails with `OutOfMemory` if the allocation of the schema fails. An error of either reader stands
 /// in its field.
 pub fn read_as_both<'a, T: Deserialize<'a> + HasSchema>(
     alloc: Global,

@@ -20,7 +20,7 @@ use Rattle.postcard_explain.proofs.Spelled.{bytes_join, opens_nothing, spelled}
 
 -- ---- walks one after another
 
--- Lines added for a front, and then for a front of the bytes after it.
+-- Lines added for a prefix, and then for a prefix of the bytes after it.
 pub adds_both : (P Q R : List Line → Type 0) → ((a b : List Line) → P a → Q b → R (a ++ b)) → (old mid new : List Line) (bytes rest after : List ℕ)
     → Adds P old bytes mid rest → Adds Q mid rest new after → Adds R old bytes new after
 adds_both P Q R joins old mid new bytes rest after (a, p, is, e) (b, q, was, f) = (
@@ -56,7 +56,7 @@ refused_as most depth label s expected error old new bytes r f w =
     walks_as (λ ls. ⊥) (Explains most depth label s) (IsRefusal depth label expected bytes error) (Refuses most depth label s) (λ a q. absurd q)
     (λ a q. subst (Refuses most depth label s) (sym q.4) (f q.0 q.1 q.2 q.3 q.5)) old new bytes r w
 
--- A line is added for a front.
+-- A line is added for a prefix.
 pub pushed : (P : List Line → Type 0) (line : Line) (old new : List Line) (bytes front rest : List ℕ) → P (line ∷ []) → new ≡ old ++ line ∷ []
     → line.bytes.now ≡ front → bytes ≡ front ++ rest → Adds P old bytes new rest
 pushed P line old new bytes front rest p is seen e =
@@ -70,7 +70,7 @@ goes_on Q R T S head old mid new bytes rest r joins stops a w =
     walks_on (λ ls. ls ≡ head) Q R T S (λ a b p q. subst (λ ls. R (ls ++ b)) (sym p) (joins b q)) (λ a b p q. subst (λ ls. S (ls ++ b)) (sym p) (stops b q))
     old mid new bytes rest r a w
 
--- A line of a value is added for a front, and a walk goes on after it.
+-- A line of a value is added for a prefix, and a walk goes on after it.
 pub pushed_on : (most depth : ℕ) (label : PlainLabel) (s : Schema) (Q T : List Line → Type 0) (line : Line) (old mid new : List Line) (bytes front rest : List ℕ)
     (r : Result (Bor (List ℕ)) Error) → ((b : List Line) → Q b → Explains most depth label s (line ∷ b)) → ((b : List Line) → T b → Refuses most depth label s (line ∷ b))
     → mid ≡ old ++ line ∷ [] → line.bytes.now ≡ front → bytes ≡ front ++ rest → Walks Q T mid rest new r → WalksValue most depth label s old bytes new r
@@ -156,7 +156,7 @@ refuses_more most depth item i n a b end h (j, head, more, from, low, m, r, is) 
 
 -- ---- all lines
 
--- The lines of a value at the front, and then those of what is left, explain the bytes.
+-- The lines of a value at the prefix, and then those of what is left, explain the bytes.
 pub all_explained : (most : ℕ) (s : Schema) (bytes rest : List ℕ) (old mid lines last : List Line) → old ≡ [] → Adds (Explains most 0 whole s) old bytes mid rest
     → IsLast last → lines ≡ mid ++ last → bytes_of last ≡ rest → IsExplained most s bytes lines
 all_explained most s bytes rest old mid lines last none (front, h, is, e) end all shown = record {

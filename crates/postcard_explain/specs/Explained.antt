@@ -109,7 +109,7 @@ IsMore depth label n bytes lines =
     ((n ≡ 0) × (lines ≡ []))
     ⊎ ((line : Line) × (0 < n) × IsAt depth label line × (line.kind ≡ MoreElements n) × (line.bytes.now ≡ bytes) × (lines ≡ line ∷ []))
 
--- The same of items that the bytes spell.
+-- The same of items that the bytes encode.
 abbrev pub ExplainsMore : ℕ → PlainLabel → Item → ℕ → List Line → Type 0
 ExplainsMore depth label item n lines = IsMore depth label n (bytes_of lines) lines × SpellsEach (item_type item) n (bytes_of lines)
 
@@ -117,7 +117,7 @@ ExplainsMore depth label item n lines = IsMore depth label n (bytes_of lines) li
 abbrev pub IsLast : List Line → Type 0
 IsLast lines = (lines ≡ []) ⊎ ((line : Line) × (lines ≡ line ∷ []) × (line.kind ≡ AfterValue))
 
--- The lines are those of a value of the schema at the front of the bytes and, if bytes follow it, a line for these. Of one list at most
+-- The lines are those of a value of the schema at the start of the bytes and, if bytes follow it, a line for these. Of one list at most
 -- `most` elements have lines of their own.
 pub record IsExplained (most : ℕ) (schema : Schema) (bytes : List ℕ) (lines : List Line) : Type 0 where
   pub front : List Line

@@ -12,13 +12,14 @@ use Rattle.postcard_explain.specs.declared.row.Item.TheVariants as items
 use Rattle.postcard_explain.specs.declared.row.Row.{Row as RowHere}
 use Rattle.postcard_explain.specs.declared.row.Row.TheVariants as rows
 
--- A label as what it says: a name is its text, wherever it is in memory.
+-- A label as a plain value: a name is its text, and not a place in memory.
 pub data PlainLabel : Type 0 where
   whole : PlainLabel
   at_field : List ℕ → PlainLabel
   at_part : ℕ → PlainLabel
   at_element : ℕ → PlainLabel
 
+-- The label that a value of the program stands for.
 abbrev pub plain_label : Label → PlainLabel
 plain_label Whole = whole
 plain_label (Field name) = at_field name.now

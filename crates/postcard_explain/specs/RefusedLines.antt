@@ -77,7 +77,7 @@ RefusesMore most depth item n lines =
     (i : ℕ) × (head : List Line) × (more : List Line) × (most ≤ i) × (i < n) × ExplainsMore depth (at_element most) item (i - most) head
     × RefusesItem most depth (at_element i) item more × (lines ≡ head ++ more)
 
--- The lines are one, which says that this is expected where an error other than `OutOfMemory` was found.
+-- The lines are a single line of a part that can't be read. It names what is expected there, and the error is not `OutOfMemory`.
 abbrev pub IsRefusal : ℕ → PlainLabel → Expected → List ℕ → Error → List Line → Type 0
 IsRefusal depth label expected bytes error lines =
     (line : Line) × IsAt depth label line × (line.kind ≡ Refused expected) × (line.bytes.now ≡ bytes) × (lines ≡ line ∷ []) × (error ≢ OutOfMemory)

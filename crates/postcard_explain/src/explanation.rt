@@ -11,7 +11,7 @@ use postcard_schema::Schema;
 use postcard_wire::{Error, Result};
 use std::alloc::Global;
 
-/// Bytes line by line.
+/// An explanation of bytes, line by line.
 #[derive(Debug, Drop)]
 pub struct Explanation<'a> {
     /// The lines, in the order of their bytes.
@@ -21,15 +21,15 @@ pub struct Explanation<'a> {
     pub refused: Option<Error>,
 }
 
-/// Says of bytes line by line which part of a value of the schema they are. Each byte is on one
-/// line, in order.
+/// Describes each byte, line by line, as a part of a value of the schema. Each byte is on one line,
+/// in order.
 ///
-/// The lines are those of the value at the front of the bytes, as `postcard_value::take_from_bytes`
+/// The lines are those of the value at the start of the bytes, as `postcard_value::take_from_bytes`
 /// reads it. Each value without parts, count, index and byte of an option has a line. Each tuple,
 /// struct or array in another value and each entry of a map has one without bytes. The bytes after
 /// the value are the last line, if there are some. If a part can't be read, its line is the last,
-/// and has the rest of the bytes. Of a list, a map or an array, the elements after the first `most`
-/// are on one line, and all others have lines of their own.
+/// and has all remaining bytes. In a list, a map or an array, the first `most` elements have lines
+/// of their own, and the others share one line.
 ///
 /// # Errors
 ///

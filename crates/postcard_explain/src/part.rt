@@ -1,9 +1,9 @@
 //! The walk over a value: the lines of each kind of part.
 //!
-//! A function adds the lines of what it is named after, at the front of the bytes, and returns the
-//! bytes after it. Of a list, the elements after the first `most` are on one line. A function fails
-//! with `OutOfMemory` if an allocation fails, and with the error of a part that can't be read, once
-//! its line is added.
+//! A function reads the part that its name says from the start of the bytes, adds the part's lines,
+//! and returns the remaining bytes. In a list, the elements after the first `most` share one line.
+//! A function fails with `OutOfMemory` if an allocation fails, and with the error of a part that
+//! can't be read, once its line is added.
 
 ghost use Rattle.std.specs.Prelude.{◌≡◌, ◌-◌, ℕ, Box};
 ghost use Rattle.postcard_explain.specs.{AsLeaf, Enum, ExplainsElements, ExplainsItem};
@@ -126,7 +126,7 @@ fn explain_list<'a>(
     }
 }
 
-/// Does so for `count` items, whose lines have this depth.
+/// Adds the lines of `count` items, at this depth.
 #[cycle(explain)]
 fn explain_elements<'a>(
     walk: &mut Walk<'a>,
@@ -151,7 +151,7 @@ fn explain_elements<'a>(
     explain_more(walk, most, item, count, depth, rest)
 }
 
-/// Adds one line for the items of `count` after the first `most`, if there are some. If one of them
+/// Adds one line for the items after the first `most` of `count`, if there are some. If one of them
 /// can't be read, the line is that of those before it, and the refused item has lines of its own.
 #[cycle(explain)]
 fn explain_more<'a>(

@@ -1,4 +1,4 @@
-//! What values have in them: the items of a list, and the parts of a tuple, a struct or an entry.
+//! The contents of values: the items of a list, and the parts of a tuple, a struct or an entry.
 
 ghost use Rattle.std.specs.Prelude.{◌≡◌, ◌<◌, ◌++◌, ℕ, List, IfErr, IfOk, MatchResult, get_or};
 ghost use Rattle.std.specs.Prelude.{length};
@@ -11,7 +11,7 @@ use postcard_value::take_from_bytes;
 use postcard_wire::{Error, Result};
 use std::alloc::Global;
 
-/// What a list or an array has.
+/// An item of a list, a map or an array.
 #[derive(Clone, Copy)]
 pub(crate) enum Item<'a> {
     /// A value of the type.
@@ -61,7 +61,7 @@ impl<'a> Row<'a> {
     }
 }
 
-/// Returns the bytes after the item at the front of the bytes. Fails as [`take_from_bytes`] does.
+/// Returns the bytes after the item with which the bytes begin. Fails as [`take_from_bytes`] does.
 pub(crate) fn skip_item<'a>(alloc: Global, item: Item<'_>, bytes: &'a [u8]) -> Result<&'a [u8]>
     ensures skipped { IfOk result (λ rest. (front : List ℕ)
         × FrontSpells (item_type (item_of item.entry)) front × (bytes.now ≡ front ++ rest.now)) }

@@ -23,7 +23,7 @@ pub(crate) const WHOLE: Place<'static> = Place {
     label: Label::Whole,
 };
 
-/// What a walk over bytes needs and makes.
+/// The state of a walk over bytes: its parameters and the lines so far.
 #[derive(Drop)]
 pub(crate) struct Walk<'a> {
     pub alloc: Global,
@@ -84,8 +84,7 @@ pub(crate) fn push_more<'a>(
     push(walk, place, LineKind::MoreElements(count), bytes)
 }
 
-/// Adds the line of a part that can't be read, with the rest of the bytes, and fails with the
-/// error.
+/// Adds the line of a part that can't be read, with all remaining bytes, and fails with the error.
 pub(crate) fn refuse<'a>(
     walk: &mut Walk<'a>,
     expected: Expected,

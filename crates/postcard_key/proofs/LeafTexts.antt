@@ -1,4 +1,4 @@
--- No name of a type without parts begins another: the name at the front of a text is read back.
+-- No name of a type without parts begins another: so the type can be recovered from a text that begins with its name.
 use Rattle.std.proofs.Common.{◌≡◌, ℕ, Bool, true, false, cond, List, [], ◌∷◌, ◌++◌, refl, sym, ap, subst, ◌∙◌}
 use Rattle.std.specs.Prelude.{nat_eq}
 use Rattle.std.proofs.lemmas.List.{append_cancel_left}

@@ -1,4 +1,5 @@
--- Types with one text are equal: the text of a type ends where the text says, so that what follows it can be cut off.
+-- Types with one text are equal. The text of a type shows where it ends, so no text of a type is a prefix of another with other bytes after
+-- it.
 use Rattle.std.proofs.Common.{◌≡◌, ℕ, ◌<◌, cond, List, [], ◌∷◌, ◌++◌, get_or, drop, refl, sym, ap, subst, ◌∙◌, append_assoc, arith}
 use Rattle.std.specs.Prelude.{nat_eq}
 use Rattle.std.specs.Char.{digit_value}
@@ -77,7 +78,7 @@ no_end t x y e = below t (ap first_kind e ∙ kind_read t y)
     below (group us) k = omega (arith, k)
     below (choice us) k = omega (arith, k)
 
--- The first byte of both sides, and what follows it.
+-- Equal lists have equal first bytes and equal remaining bytes.
 first_same : (a b : ℕ) (x y : List ℕ) → a ∷ x ≡ b ∷ y → a ≡ b
 first_same a b x y e = ap (λ l. get_or l 0 0) e
 

@@ -1,4 +1,4 @@
--- A digest that takes one text after another.
+-- A digest that takes one text after another has taken the two texts joined.
 use Rattle.std.proofs.Common.{◌≡◌, ℕ, List, [], ◌∷◌, ◌++◌, sym, ap, ◌∙◌, subst, append_assoc}
 use Rattle.std.specs.Prelude.{codes}
 use Rattle.crc.specs.Digest.{Progress, Took}

@@ -1,5 +1,6 @@
--- The text of a type's shape: a type expression without names and blanks. An enum has no expression without names. Its text is `<`, the
--- contents of its variants with a `|` before each, and `>`.
+-- The text of a type's shape, which `key` hashes: its type expression without names and blanks, such as `(u8,str,)`. A type expression of
+-- an enum needs names. So an enum has a text of its own kind: `<`, then for each variant `|` and the text of its content, then `>`. The
+-- enum `Boot | Reading(u8)` has the text `<|()|u8>`.
 use Rattle.std.specs.Prelude.{ℕ, List, ◌++◌, codes}
 use Rattle.std.specs.Fmt.{decimal}
 use Rattle.postcard_schema.specs.Leaves.{leaf_name}

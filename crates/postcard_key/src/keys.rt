@@ -11,8 +11,9 @@
 //! | `Boot \| Reading(u8)` | `<\|()\|u8>` | `(\|Boot(())\|Reading(u8))` |
 //! | an enum without variants | `<>` | `(\|)` |
 //!
-//! A text with no enum in it is a type expression, as `postcard_schema_text::parse` reads it. With
-//! names, so is that of an enum. A struct without fields has the text `{}` for [`named_key`].
+//! The text of a type without enums is a type expression, which `postcard_schema_text::parse`
+//! reads. The text with names is one for enums, too. A struct without fields has the text `{}` for
+//! [`named_key`].
 //!
 //! Some types of the same bytes have different texts, and so different keys: `bytes` and `[u8]`,
 //! `[u8; 2]` and `(u8, u8)`, `f32` and `[u8; 4]`.
@@ -28,10 +29,10 @@ use crc::{CRC_64_XZ, Crc};
 use postcard_schema::Schema;
 
 /// Returns the key of a type, which depends on the order and the types of its parts. Names don't
-/// count, and a struct has the key of the tuple of its fields.
+/// change it: a struct has the key of the tuple of its fields.
 ///
-/// It allocates nothing. Types of different shapes have different texts. Different texts may have
-/// one key, as with any checksum of 64 bits.
+/// It allocates nothing. Types of different shapes have different texts. As with any checksum of 64
+/// bits, two different texts may have the same key.
 ///
 /// # Examples
 ///
@@ -54,8 +55,8 @@ pub fn key(schema: &Schema) -> u64
 /// Returns the key of a type with the names of its fields and variants. So a field that is renamed
 /// changes it. It allocates nothing.
 ///
-/// Names are taken as they are. If a name isn't an identifier, such as `a:u8,b`, two types may have
-/// one text.
+/// Names are taken unchanged. If a name isn't an identifier, such as `a:u8,b`, two types may have
+/// the same text.
 ///
 /// # Examples
 ///

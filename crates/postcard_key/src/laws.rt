@@ -1,4 +1,4 @@
-//! What a key says of its type, as contracts of functions that do nothing.
+//! What equal keys imply for their types. Each law is the contract of a function that does nothing.
 
 ghost use Rattle.std.specs.Prelude.{◌≡◌, bit_xor, length, true, ℕ};
 ghost use Rattle.crc.specs.{IsBurst, message};

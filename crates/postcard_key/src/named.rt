@@ -1,4 +1,4 @@
-//! The text of a type with its names, as a digest takes it.
+//! Adds the text of a type with its names to a digest, without making a string of it.
 
 ghost use Rattle.postcard_schema.specs.Views.{enum_view, named_views, struct_view, tuple_view};
 ghost use Rattle.postcard_schema.specs.Views.{view, views};

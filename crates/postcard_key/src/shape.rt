@@ -1,4 +1,4 @@
-//! The text of a type's shape, as a digest takes it.
+//! Adds the text of a type's shape to a digest, without making a string of it.
 
 ghost use Rattle.postcard_schema.specs.Meaning.{choice, contents, group, type_of, types_of};
 ghost use Rattle.postcard_key.specs.{Continues, shape_text};

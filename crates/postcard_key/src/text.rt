@@ -1,4 +1,4 @@
-//! Texts that a digest takes: signs, names and numbers.
+//! Adds the pieces of a type's text to a digest: signs, names and numbers.
 
 ghost use Rattle.std.specs.Fmt.{decimal};
 ghost use Rattle.postcard_key.specs.{Continues, leaf_name};

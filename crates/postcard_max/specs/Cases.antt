@@ -27,6 +27,7 @@ abbrev pub CasesBounded : Option ℕ → Option ℕ → (ℕ → Tree → Type 0
 CasesBounded None g reads = g ≡ None
 CasesBounded (Some i) g reads = FromBounded i g reads
 
+-- Some variant from index i on has this size, its index included.
 abbrev pub CasesReached : Option ℕ → Option ℕ → (ℕ → Tree → Type 0) → Type 0
 CasesReached None g reads = g ≡ None
 CasesReached (Some i) g reads = FromReached i g reads
@@ -112,6 +113,7 @@ first_reached i a q s r few h k = elim (nat_lt (varint_len i + a) (2 ^ 64)) as (
     with_others None k = tt
     with_others (Some b) k = longer_case i a b s r few h k
 
+-- If a content reaches its size, and the other variants reach theirs, some variant reaches the greater of both.
 pub case_reached : (a : Option ℕ) (g : Option ℕ → Option ℕ) (s : Tree → Type 0) (r : ℕ → Tree → Type 0) (i : Option ℕ) → IsIndex i → IsReached a s → CasesReached (sum_of i (Some 1)) (g (sum_of i (Some 1))) r
     → CasesReached i (case_greatest a g i) (case_reads s r)
 case_reached a g s r None few h k = refl
@@ -141,5 +143,6 @@ reached_once : (g : Option ℕ) (reads : ℕ → Tree → Type 0) → IfSome g (
 reached_once None reads h k = tt
 reached_once (Some m) reads h k = let (j, s, r, few, e) = k h in (Variant j s, (j, s, refl, omega (arith, few), r), ap (λ (n : ℕ). tree_len (Variant n s)) (sym (from_zero j)) ∙ e)
 
+-- The size of an enum is reached if those of its variants are.
 pub variants_reached : (a : Option ℕ) (g : Option ℕ → Option ℕ) (reads : ℕ → Tree → Type 0) → CasesReached (Some 0) (case_greatest a g (Some 0)) reads → IsReached (case_greatest a g (Some 0)) (IsVariant reads)
 variants_reached a g reads k = reached_once (case_greatest a g (Some 0)) reads (some_bytes a (g (sum_of (Some 0) (Some 1)))) k

@@ -1,5 +1,5 @@
--- The greatest sizes of options, results, arrays and lists of a fixed capacity, from those of what
--- they hold (wire format 1.0, "option", "newtype_variant", "tuple" and "seq").
+-- The greatest sizes of options, results, arrays and lists of a fixed capacity, from those of their contents. The format's chapters are
+-- "option", "newtype_variant", "tuple" and "seq" (wire format 1.0).
 use Rattle.std.proofs.Common.{◌≡◌, ℕ, zero, suc, ◌+◌, ◌*◌, ◌^◌, ◌<◌, ◌≤◌, inl, inr, true, false, Option, Some, None, length, refl, ap, arith, length-append, nat_lt}
 use Rattle.std.specs.Prelude.{max, if◌then◌else◌, List, Any, IsSomeAnd}
 use Rattle.std.proofs.lemmas.Bool.{cases_lt}

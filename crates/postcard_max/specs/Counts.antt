@@ -5,7 +5,7 @@ use Rattle.postcard_wire.specs.Number.{digits, digits_within}
 use Rattle.postcard_max.specs.Sizes.{varint_len}
 use Rattle.postcard_wire.proofs.Numbers.{one_digit, more_digits}
 
--- The spelling of a number has at least one digit.
+-- A number has at least one digit.
 some_digits : (k n : ℕ) → 1 ≤ length (digits_within k n)
 some_digits zero n = omega arith
 some_digits (suc k) n = elim (cases_lt n 128) [
@@ -28,7 +28,7 @@ pub count_len : (n : ℕ) → length (digits n) ≡ varint_len n
 unfolding digits
 count_len n = refl
 
--- A greater number has as many digits or more.
+-- A greater number has no fewer digits.
 pub longer_counts : (a b : ℕ) → a ≤ b → length (digits a) ≤ varint_len b
 unfolding digits
 longer_counts a b h = more_for_more 18 a b h

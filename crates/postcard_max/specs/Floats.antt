@@ -1,5 +1,4 @@
--- The greatest sizes of floating-point numbers: each takes just as many bytes as its type has (wire
--- format 1.0, "f32" and "f64").
+-- The greatest sizes of floating-point numbers: each takes the 4 or 8 bytes of its type (wire format 1.0, "f32" and "f64").
 use Rattle.std.specs.Float.{Format, binary32, binary64}
 use Rattle.postcard_wire.specs.Reading.{IsArray, IsByte}
 use Rattle.postcard_shape.specs.Floats.{float_len}

@@ -1,6 +1,5 @@
--- The greatest sizes of values that are a single node: bytes, booleans, numbers, characters, texts of
--- a fixed capacity and spans of time. The rules are those of wire format 1.0, "the serde data model"
--- and "maximum encoded length".
+-- The greatest sizes of values that are a single node: bytes, booleans, numbers, characters, strings of a fixed capacity and spans of time.
+-- The rules are those of wire format 1.0, "the serde data model" and "maximum encoded length".
 use Rattle.std.proofs.Common.{◌≡◌, ℕ, zero, suc, ◌+◌, ◌-◌, ◌^◌, ◌<◌, ◌≤◌, inl, inr, Some, true, List, [], ◌∷◌, ◌++◌, length, refl, ap, ◌∙◌, arith, length-append, encode_utf8, pos}
 use Rattle.std.specs.Prelude.{slice_index}
 use Rattle.std.proofs.lemmas.Str.{len_utf8_bounds, length-encode, IsUtf8-from_ascii}
@@ -21,8 +20,8 @@ use Rattle.postcard_max.specs.Counts.{longer_counts, count_len, one_count}
 use Rattle.postcard_shape.specs.Shape.{never}
 use Rattle.postcard_max.specs.Willing.{never_any}
 
--- The limit of a node holds that takes at most n bytes, in some encoding as many, and whose values
--- never refuse themselves.
+-- The limit `exactly n` holds of a node that takes at most n bytes, takes n bytes in some encoding, and whose values never refuse to be
+-- written.
 leaf_lawful : {V : Type 0} {n : ℕ} {reads : Tree → Type 0} → AreBounded (Some n) reads → IsReached (Some n) reads → IsLimit (exactly n) reads (λ (v : V). never)
 leaf_lawful h k = record { bounded = h; is_reached = λ _. k; never_refuses = λ _. never_any }
 
@@ -34,8 +33,7 @@ byte_lawful = leaf_lawful (λ t f. rw f.1 (omega arith)) (Byte 0, (0, refl, omeg
 pub boolean_lawful : {V : Type 0} → IsLimit (exactly 1) IsBoolean (λ (v : V). never)
 boolean_lawful = leaf_lawful (λ t f. rw f.1 (omega arith)) (Boolean true, (true, refl), refl)
 
--- An unsigned number takes at most as many bytes as its width allows, and the greatest number takes
--- as many.
+-- An unsigned number takes at most the bytes of a varint of its width. The greatest number takes that many.
 num_bounded : (w : ℕ) → IsWidth w → AreBounded (Some (max_digits w)) (IsNum w)
 num_bounded w wide t f = rw f.1 (SpellsNum-digits w f.0 wide f.2).count
 
@@ -48,8 +46,7 @@ num_reached w wide =
 pub num_lawful : {V : Type 0} (w : ℕ) → IsWidth w → IsLimit (exactly (max_digits w)) (IsNum w) (λ (v : V). never)
 num_lawful w wide = leaf_lawful (num_bounded w wide) (num_reached w wide)
 
--- A signed number takes at most as many bytes as its width allows, and some number takes as many,
--- by its zigzag.
+-- A signed number takes at most the bytes of a varint of its width. Some number takes that many, by its zigzag encoding.
 int_bounded : (w : ℕ) → IsWidth w → AreBounded (Some (max_digits w)) (IsInt w)
 int_bounded w wide t (z, e, r) = rw e (num_bounded w wide (Num w _) (_, refl, zig_below w z wide r))
 
@@ -67,8 +64,7 @@ int_lawful w wide = leaf_lawful (int_bounded w wide) (int_reached w wide)
 without_lawful : {V : Type 0} (one : Tree) (n : ℕ) (reads : Tree → Type 0) → tree_len one < n → AreBounded (Some n) reads → IsReached (Some n) reads → IsLimit (exactly n) (Without one reads) (λ (v : V). never)
 without_lawful one n reads less h (t, r, e) = leaf_lawful (λ u f. h u f.0) (t, (r, λ same. omega (arith, less, e, ap tree_len same)), e)
 
--- The numbers of a width without 0 take at most as many bytes as the width allows, and some take as
--- many, since 0 takes only one.
+-- The numbers of a width without 0 take at most the bytes of a varint of the width. Some take that many, since 0 takes only one byte.
 one_byte : (w : ℕ) → IsWidth w → 1 < max_digits w
 one_byte w (inl e) = rw e (omega arith)
 one_byte w (inr (inl e)) = rw e (omega arith)

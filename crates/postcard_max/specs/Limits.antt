@@ -20,6 +20,7 @@ Reached {X} measure greatest has = IfSome greatest (λ m. (x : X) × has x × (m
 abbrev pub tree_len : Tree → ℕ
 tree_len t = length (canonical t)
 
+-- The length of the canonical encodings of trees in a row.
 abbrev pub trees_len : Trees → ℕ
 trees_len ts = length (canonical_all ts)
 
@@ -35,6 +36,7 @@ IsReached = Reached tree_len
 abbrev pub RowBounded : Option ℕ → (Trees → Type 0) → Type 0
 RowBounded = Bounded trees_len
 
+-- Some row of the set has this size. Nothing is claimed if the size is none.
 abbrev pub RowReached : Option ℕ → (Trees → Type 0) → Type 0
 RowReached = Reached trees_len
 
@@ -42,6 +44,7 @@ RowReached = Reached trees_len
 pub limited_bounded : {X : Type 0} (measure : X → ℕ) (n : ℕ) (has : X → Type 0) → ((x : X) → has x → measure x ≤ n) → Bounded measure (limited n) has
 limited_bounded measure n has h = elim (nat_lt n (2 ^ 64)) as (λ v. Bounded measure (if v then Some n else None) has) [ true ↦ h | false ↦ tt ]
 
+-- If something of the set measures n, the size n is reached.
 pub limited_reached : {X : Type 0} (measure : X → ℕ) (n : ℕ) (has : X → Type 0) → ((x : X) × has x × (measure x ≡ n)) → Reached measure (limited n) has
 limited_reached measure n has h = elim (nat_lt n (2 ^ 64)) as (λ v. Reached measure (if v then Some n else None) has) [ true ↦ h | false ↦ tt ]
 

@@ -10,8 +10,8 @@ use crate::sizes::{greater, sum, varint_len};
 use postcard_shape::{Case, Cased, NoCase};
 
 /// Variants in a row whose contents each have a greatest size: `NoCase`, or a `Case` of a type with
-/// [`MaxSize`], followed by others. They may be the last variants of an enum, so their sizes depend
-/// on the index of the first of them: `None` if that does not fit `usize`.
+/// [`MaxSize`], followed by others. They may be the last variants of an enum. So their sizes depend
+/// on the index of the first of them, which is `None` if it does not fit `usize`.
 pub trait MaxCases: Cased {
     /// The greatest size of a variant with its index, and its conditions, as in [`MaxSize`].
     ghost limit: { Option ℕ → SizeLimit };

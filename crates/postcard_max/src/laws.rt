@@ -1,4 +1,4 @@
-//! Laws of greatest sizes, as contracts of functions that do nothing.
+//! Laws of greatest sizes. Each law is the contract of a function that does nothing.
 //!
 //! [`sizes`] and [`within_max_size`] hold for every type. Each other law has the sizes of a family
 //! of types, and says that a size is reached if those of the type's parts are. A size is `None` if
@@ -23,16 +23,15 @@ use std::rc::Rc;
 use std::sync::Arc;
 use std::time::Duration;
 
-/// No canonical encoding of a tree that a type reads is longer than the type's greatest size. That
-/// of some tree is as long if the type says that its size is reached.
+/// No canonical encoding of a tree that a type reads is longer than the type's greatest size. If
+/// the type says that its size is reached, some canonical encoding has this size.
 pub fn sizes<T: MaxSize>()
     ensures bounded { AreBounded T.limit.greatest T.shape.reads }
     ensures reached { T.limit.reached → IsReached T.limit.greatest T.shape.reads }
 {}
 
-/// The value's canonical encoding is no longer than the greatest size of its type, if the type has
-/// one, so a buffer of that size has room for it. If `willing` holds of the type, the value doesn't
-/// refuse itself.
+/// If a type has a greatest size, the canonical encoding of each value is no longer. So a buffer of
+/// that size has room for it. If `willing` holds of the type, the value doesn't refuse itself.
 pub fn within_max_size<T: MaxSize>(value: &T)
     ensures willing { T.limit.willing → IsWilling T.shape value.now }
     ensures bounded { IfSome T.limit.greatest

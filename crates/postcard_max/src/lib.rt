@@ -1,6 +1,6 @@
-//! The greatest size of a type's encodings, in bytes, so that a buffer can be sized once for all
-//! its values: [`MaxSize`], as a number for a program and as a theorem for a proof. A struct or an
-//! enum has it by [`MaxSizeRepr`].
+//! The greatest size of a type's encodings, in bytes: [`MaxSize`]. It is a number for a program,
+//! which can size one buffer for all values, and a theorem for a proof. A struct or an enum has it
+//! by [`MaxSizeRepr`].
 #![tactic(auto)]
 
 pub mod cases;

@@ -11,12 +11,13 @@ use postcard_shape::{Repr, Shaped};
 /// Your own struct or enum implements [`MaxSizeRepr`], and gets this trait by that. Types that hold
 /// any number of elements, such as `Vec<T>`, `String` and `&str`, have no greatest size.
 pub trait MaxSize: Shaped {
-    /// The greatest size in bytes, and conditions under which some encoding is as long and no value
-    /// refuses itself when it is written.
+    /// The greatest size in bytes, and two conditions: one under which some encoding has this size,
+    /// and one under which no value refuses to be written.
     ghost limit: { SizeLimit };
 
     /// Returns the greatest size of an encoding of this type's values, in bytes, or `None` if none
-    /// is known that fits `usize`. No encoding is longer and, if `reached` holds, one is as long.
+    /// is known that fits `usize`. No encoding is longer. If `reached` holds, some encoding has
+    /// this size.
     fn postcard_max_size() -> Option<usize>
         ensures { result ≡ limit.greatest };
 
@@ -30,11 +31,11 @@ pub trait MaxSize: Shaped {
     ghost lawful: { IsLimit limit Self.shape.reads Self.shape.refusal };
 }
 
-/// A type with a greatest size that a [`Repr`] may name: a type with [`MaxSize`], parts in a row
-/// (`Part`), or the variants of an enum (`Case`).
+/// A type with a greatest size that a [`Repr`] may name. It is a type with [`MaxSize`], parts in a
+/// row (`Part`), or the variants of an enum (`Case`).
 ///
-/// It is [`MaxSize`] without `in_forms`, which a `Case` can't have: that the index of a variant
-/// fits 32 bits is known only of a concrete enum.
+/// It is [`MaxSize`] without `in_forms`, which a `Case` can't have. Only for a concrete enum is it
+/// known that a variant's index fits 32 bits.
 pub trait SizeBound: Shaped {
     ghost limit: { SizeLimit };
 
@@ -55,8 +56,8 @@ impl<T: MaxSize> SizeBound for T {
     ghost lawful = { T.lawful };
 }
 
-/// A type that has the greatest size of its [`Repr`]: a struct that of the tuple of its fields, an
-/// enum that of the greatest of its variants.
+/// A type that has the greatest size of its [`Repr`]. A struct has that of the tuple of its fields,
+/// and an enum that of its greatest variant.
 pub trait MaxSizeRepr: Repr {
     /// Does nothing. An impl calls `in_forms` on each field, as by
     /// `(&self.name, self.count).in_forms()`, and in an enum on each field of the value's variant.

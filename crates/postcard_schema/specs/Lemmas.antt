@@ -38,6 +38,7 @@ contents_map : {A B : Type 0} (m : Named A → Named B) (f : A → B) (each : (n
 contents_map m f each [] = refl
 contents_map m f each (n ∷ ns) = rw (each n) (ap (λ ts. f n.content ∷ ts) (contents_map m f each ns))
 
+-- The step of the fold keeps the types of the contents.
 named_types : (ns : List (Named Schema)) → contents (map (former-Schema-Struct-0-at-2.map Schema MessageType type_of) ns) ≡ map type_of (contents ns)
 named_types ns = contents_map (former-Schema-Struct-0-at-2.map Schema MessageType type_of) type_of (λ n. refl) ns
 
@@ -66,6 +67,7 @@ content_at [] i n low e = absurd (omega (arith, low))
 content_at (x ∷ xs) zero n low e = ap (λ z. reads (type_of z.content)) (sym e)
 content_at (x ∷ xs) (suc i) n low e = content_at xs i n (omega (arith, low)) e
 
+-- An index past the last field or variant has no trees.
 pub no_content_at : (ns : List (Named Schema)) (i : ℕ) (t : Tree) → (i < length ns → ⊥) → reads_at (types_of (contents ns)) i t → ⊥
 no_content_at [] i t high r = r
 no_content_at (x ∷ xs) zero t high r = high (omega arith)
@@ -76,7 +78,7 @@ pub contents_append : {A : Type 0} (ns ms : List (Named A)) → contents (ns ++ 
 contents_append [] ms = refl
 contents_append (n ∷ ns) ms = ap (λ xs. n.content ∷ xs) (contents_append ns ms)
 
--- A list of names has as many contents.
+-- A list of names has one content for each name.
 pub contents_length : {A : Type 0} (ns : List (Named A)) → length (contents ns) ≡ length ns
 contents_length [] = refl
 contents_length (n ∷ ns) = ap suc (contents_length ns)

@@ -30,15 +30,15 @@ abbrev pub varint_reads : Bool → ℕ → Tree → Type 0
 varint_reads false = IsNum
 varint_reads true = IsInt
 
--- The trees of a type of integers. A number of 8 bits is a byte, and a wider one a varint, of a signed number's zigzag encoding (wire
--- format 1.0, "varint encoded integers").
+-- The trees of a type of integers. A number of 8 bits is a byte, and a wider one a varint (wire format 1.0, "varint encoded integers"). A
+-- signed number is written as its zigzag encoding.
 abbrev pub integer_reads : Integer → Tree → Type 0
 integer_reads U8 = IsByte
 integer_reads I8 = IsByte
 integer_reads integer = varint_reads (is_signed integer) (8 * size_of integer)
 
--- The trees of a type without parts. A float is the array of the 4 or 8 bytes of its bits (wire format 1.0, "f32" and "f64"), and a number
--- at its full width that of its bytes. `bytes` is a counted list of bytes.
+-- The trees of a type without parts. A float is the array of the 4 or 8 bytes of its bits (wire format 1.0, "f32" and "f64"). A number at
+-- its full width is the array of its bytes. `bytes` is a counted list of bytes.
 abbrev pub leaf_reads : Leaf → Tree → Type 0
 leaf_reads leaves.Bool = IsBoolean
 leaf_reads (leaves.Integer integer) = integer_reads integer

@@ -5,19 +5,21 @@ use Rattle.postcard_schema.specs.declared.path.Path.{Path}
 use Rattle.postcard_schema.specs.declared.path.Step.{Step}
 use Rattle.postcard_schema.specs.declared.path.Step.TheVariants.{Name, Part, Element, Each}
 
--- A step as what it says: a name is its text, wherever it is in memory.
+-- A step as a plain value: a name is its text, and not a place in memory.
 pub data PlainStep : Type 0 where
   at_name : List ℕ → PlainStep
   at_part : ℕ → PlainStep
   at_element : ℕ → PlainStep
   at_each : PlainStep
 
+-- The step that a value of the program stands for.
 abbrev pub plain_step : Step → PlainStep
 plain_step (Name name) = at_name name.now
 plain_step (Part k) = at_part k
 plain_step (Element i) = at_element i
 plain_step Each = at_each
 
+-- The steps of a path of the program.
 abbrev pub plain_path : Path → List PlainStep
 plain_path path = map plain_step path.steps.items
 
@@ -49,5 +51,6 @@ steps_text i (s ∷ ss) = placed_text i s ++ steps_text (suc i) ss
 abbrev pub plain_text : List PlainStep → List ℕ
 plain_text = steps_text 0
 
+-- The text of the steps of a program, as a path.
 abbrev pub path_text : List Step → List ℕ
 path_text steps = plain_text (map plain_step steps)

@@ -1,4 +1,4 @@
--- A schema as what it says, wherever its parts are in memory: its type, with the text of each name.
+-- A schema as a plain value, without places in memory: its type, with the text of each name.
 use Rattle.std.specs.Prelude.{ℕ, List, [], ◌∷◌, map, string_bytes, box_value}
 use Rattle.postcard_schema.specs.declared.leaf.Leaf.{Leaf}
 use Rattle.postcard_schema.specs.declared.schema.Named.{Named}
@@ -29,12 +29,12 @@ abbrev pub views_of : List View → Views
 views_of [] = no_views
 views_of (v ∷ vs) = then_view v (views_of vs)
 
--- The names of a list, each with the view of what has it, in the same order.
+-- The names of a list, each with the view that it names, in the same order.
 abbrev pub named_of : List (List ℕ × View) → NamedViews
 named_of [] = no_names
 named_of (n ∷ ns) = then_name n.0 n.1 (named_of ns)
 
--- A name's text, and what a function sees in what has the name.
+-- A name's text, and the view of the type that it names.
 abbrev pub named : {A B : Type 0} → (A → B) → Named A → List ℕ × B
 named see n = (string_bytes n.name, see n.content)
 
@@ -53,8 +53,10 @@ view_step (Schema-F.Enum v) = enum_view (named_of (map (named (λ view. view)) v
 abbrev pub view : Schema → View
 view = fold-Schema View view_step
 
+-- The views of schemas, in order.
 abbrev pub views : List Schema → Views
 views ss = views_of (map view ss)
 
+-- The names of fields or variants, each with the view of its type.
 abbrev pub named_views : List (Named Schema) → NamedViews
 named_views ns = named_of (map (named view) ns)

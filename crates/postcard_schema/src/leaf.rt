@@ -119,7 +119,8 @@ impl ByteOrder {
 #[derive(Clone, Copy, Debug, PartialEq, Eq)]
 pub enum Leaf {
     Bool,
-    /// A number: a byte if it has 8 bits, and else a varint, of a signed number's zigzag encoding.
+    /// A number: a byte if it has 8 bits, and else a varint. A signed number's varint is that of
+    /// its zigzag encoding.
     Integer(Integer),
     /// A float, as the bytes of its bits, the lowest first.
     Float(Float),

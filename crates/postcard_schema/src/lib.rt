@@ -1,5 +1,5 @@
-//! Types of messages as values of a program: [`Schema`]. A schema means a set of trees, those of the
-//! messages of its type (`specs/Meaning.antt`).
+//! Types of messages as values of a program: [`Schema`]. A schema means a set of trees: those of
+//! the messages of its type (`specs/Meaning.antt`).
 #![tactic(auto)]
 
 mod copy;

@@ -19,9 +19,9 @@ pub enum Step<'a> {
     Each,
 }
 
-/// The steps from a value to one of its parts. It is printed with a `.` before a name or the number
-/// of a part, unless it comes first. The number of an element is in brackets, which are empty for
-/// each element. The path of the whole value is empty.
+/// The steps from a value to one of its parts. It is printed with a `.` before each name and each
+/// number of a part, but not before the first step. The number of an element is in brackets. The
+/// brackets are empty if the step is to each element. The path of the whole value is empty.
 #[derive(Debug, Drop)]
 pub struct Path<'a> {
     /// The steps, the outermost first.

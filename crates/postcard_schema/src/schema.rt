@@ -5,7 +5,8 @@ ghost use Rattle.postcard_schema.specs.{contents, has_bytes, some_has_bytes, typ
 
 use crate::leaf::Leaf;
 
-/// A name and what has it. Names are kept for printing, and take no bytes in the format.
+/// A name and the type or schema that it names. Names are kept for printing, and take no bytes in
+/// the format.
 #[derive(Debug, Drop)]
 pub struct Named<T> {
     /// The name of a field or a variant.

@@ -1,4 +1,4 @@
--- The paths in a type from those in its parts, one after the other.
+-- Lemmas for `endless_parts`: the paths in a type are those in its parts, one part after the other.
 use Rattle.std.proofs.Common.{◌≡◌, ℕ, ◌<◌, List, [], ◌∷◌, ◌++◌, map, Vec, Box, refl, ap, rules, append_assoc, append-nil}
 use Rattle.std.specs.Prelude.{nat_lt, Bool, true, false, if◌then◌else◌, string_bytes}
 use Rattle.std.specs.declared.alloc.Global.{Global}
@@ -75,13 +75,14 @@ some_elements n paths some = ap (λ b. if b then paths else []) (lt-ltb 0 n some
 
 -- ---- Parts in a row
 
--- What was added of a part, by equal steps and paths.
+-- The paths added for a part are the same if its steps and its paths are equal.
 pub moved : (here h : List PlainStep) (step s : PlainStep) (paths found now new : Paths) → h ≡ here → s ≡ step → found ≡ paths
     → new ≡ now ++ after (h ++ s ∷ []) found
     → new ≡ now ++ after (here ++ step ∷ []) paths
 moved here h step s paths found now new back same is added = rw (← back, ← same, ← is) added
 
--- The paths so far are those before and those of one part more; with the paths of the others, these are all.
+-- One turn of a loop over parts: the new paths are those before and those of one part more. With the paths of the remaining parts, these
+-- are all.
 pub next : (here : List PlainStep) (step : PlainStep) (paths others left now new all : Paths) → new ≡ now ++ after (here ++ step ∷ []) paths
     → left ≡ after here (after (step ∷ []) paths ++ others)
     → now ++ left ≡ all → new ++ after here others ≡ all

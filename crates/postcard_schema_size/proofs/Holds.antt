@@ -70,7 +70,7 @@ leaf_holds leaves.Str = record { bounded = tt; is_reached = λ _. tt; never_refu
 leaf_holds leaves.Bytes = record { bounded = tt; is_reached = λ _. tt; never_refuses = λ _. never_any }
 leaf_holds (leaves.Fixed order i) = bytes_hold (size_of i) (omega (arith, size_few i))
 
--- The trees of a type and of those after it, by their indices.
+-- The variant at index j of a type and those after it is the first at 0, and else one of the others.
 same_at : (t : MessageType) (ts : MessageTypes) (j : ℕ) → case_reads (reads t) (reads_at ts) j ≡ reads_at (then_type t ts) j
 same_at t ts zero = refl
 same_at t ts (suc j) = refl

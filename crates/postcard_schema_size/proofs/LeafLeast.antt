@@ -23,7 +23,7 @@ use Rattle.postcard_schema_size.specs.Least.{IsLeast, IsLeastSize, leaf_least}
 use Rattle.postcard_schema_size.proofs.Sums.{small, large}
 use Rattle.postcard_schema_size.proofs.Integers.{each_integer, size_few}
 
--- What a number is the least of has `limited n` as its least size, which is none if n takes more than 64 bits.
+-- If n is the least measure in a set, `limited n` is the set's least size. That is none if n takes more than 64 bits.
 pub limited_least : {X : Type 0} (measure : X → ℕ) (n : ℕ) (has : X → Type 0) → ((x : X) → has x → n ≤ measure x) → ((x : X) × has x × (measure x ≡ n))
     → IsLeast measure (limited n) has
 limited_least measure n has h k = elim (cases_lt n (2 ^ 64)) [
@@ -31,7 +31,7 @@ limited_least measure n has h k = elim (cases_lt n (2 ^ 64)) [
   | inr high ↦ subst (λ o. IsLeast measure o has) (sym (large n high)) (λ x r. omega (arith, high, h x r))
 ]
 
--- The spelling of a number has at least one byte.
+-- The digits of a number are at least one byte.
 some_digits : (n : ℕ) → 1 ≤ length (digits n)
 some_digits n = omega (arith, count_len n, some_count n)
 
@@ -121,7 +121,7 @@ alike (suc n) m reads t r e =
     let (ts, c, each, l) = alike n m reads t r e in
     (Then t ts, ap (λ k. suc k) c, (r, each), omega (arith, suc_times n m, e, l, length-append (canonical t) (canonical_all ts)))
 
--- An array of elements each of which has 2^64 bytes or more has as many.
+-- If each element has 2^64 bytes or more, a non-empty array of them has 2^64 or more, too.
 never_small : (n : ℕ) (reads : Tree → Type 0) → ((t : Tree) → reads t → 2 ^ 64 ≤ tree_len t) → (ts : Trees) → count ts ≡ suc n → Each reads ts → 2 ^ 64 ≤ trees_len ts
 never_small n reads h NoTrees c e = absurd (omega (arith, c))
 never_small n reads h (Then t ts) c e = omega (arith, h t e.0, length-append (canonical t) (canonical_all ts))

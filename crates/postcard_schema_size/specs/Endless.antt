@@ -1,4 +1,4 @@
--- Which parts of a type have no greatest size: its texts, byte strings, lists and maps, each by its path.
+-- Which parts of a type have no greatest size: its strings, byte strings, lists and maps, each by its path.
 use Rattle.std.specs.Prelude.{ℕ, ◌+◌, nat_lt, Bool, true, false, if◌then◌else◌, List, [], ◌∷◌, ◌++◌, map, string_bytes, box_value}
 use Rattle.std.specs.List.{flat_map}
 use Rattle.postcard_schema.specs.Paths.{PlainStep, at_name, at_part, at_each}
@@ -29,6 +29,7 @@ in_parts i (paths ∷ others) = after (at_part i ∷ []) paths ++ in_parts (i + 
 abbrev pub in_named : {A : Type 0} → (A → Paths) → List (Named A) → Paths
 in_named paths named = flat_map (λ n. after (at_name (string_bytes n.name) ∷ []) (paths n.content)) named
 
+-- Whether a type without parts has no greatest size: a string or a byte string.
 abbrev pub is_endless_leaf : Leaf → Bool
 is_endless_leaf Str = true
 is_endless_leaf Bytes = true

@@ -12,7 +12,7 @@ pub record HasLeast {X : Type 0} (measure : X → ℕ) (n : ℕ) (has : X → Ty
   pub fits : n < 2 ^ 64
   -- Nothing in the set has fewer bytes.
   pub none_shorter : (x : X) → has x → n ≤ measure x
-  -- Something in it has as many.
+  -- Something in the set has n bytes.
   pub reached : (x : X) × has x × (measure x ≡ n)
 
 -- The size is the least of the set, by the measure. If it is none, each element has 2^64 bytes or more; there may be none.
@@ -24,6 +24,7 @@ IsLeast {X} measure (Some n) has = HasLeast measure n has
 abbrev pub IsLeastSize : Option ℕ → (Tree → Type 0) → Type 0
 IsLeastSize = IsLeast tree_len
 
+-- The size is the least of a set of rows of trees.
 abbrev pub IsLeastOfRow : Option ℕ → (Trees → Type 0) → Type 0
 IsLeastOfRow = IsLeast trees_len
 
@@ -37,8 +38,8 @@ lesser_of None b = b
 lesser_of (Some a) None = Some a
 lesser_of (Some a) (Some b) = Some (min a b)
 
--- The least size of a type without parts. A float and a number of a fixed width have all their bytes, a character one byte of
--- UTF-8 or more, and the count of these.
+-- The least size of a type without parts. A float and a number of a fixed width have all their bytes. A character has a count and at least
+-- one byte of UTF-8.
 abbrev pub leaf_least : Leaf → ℕ
 leaf_least (Float float) = float_size float
 leaf_least Char = 2

@@ -14,8 +14,8 @@ use Rattle.postcard_max.specs.SizeLimit.{SizeLimit, exactly, option_limit, then_
 abbrev pub endless : SizeLimit
 endless = record { greatest = None; reached = ⊤; willing = ⊤ }
 
--- The greatest or least size of an array of n elements that have this one: n times it, and 0 if there are no elements, even
--- if they have none.
+-- The greatest or least size of an array of n elements, from that of an element: n times as much. It is 0 if n is 0, even if the element's
+-- size is none.
 abbrev pub repeated : ℕ → Option ℕ → Option ℕ
 repeated zero size = Some 0
 repeated (suc n) size = times (suc n) size

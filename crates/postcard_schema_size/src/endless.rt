@@ -1,6 +1,6 @@
 //! The parts of a type that have no greatest size: [`endless_parts`]. The functions below it fail
-//! as it does. `here` has the steps to the part that is looked at. It is unchanged when they return
-//! `Ok`.
+//! as it does. Their parameter `here` has the steps to the current part. It is unchanged when they
+//! return `Ok`.
 
 ghost use Rattle.std.specs.Prelude.{◌≡◌, ◌++◌, ◌∷◌, [], if◌then◌else◌, IfErr, IfOk, OnOk, map};
 ghost use Rattle.postcard_schema_size.specs.{after, endless, in_named, in_parts};
@@ -10,7 +10,7 @@ use postcard_schema::{Leaf, Named, Path, Schema, Step};
 use postcard_wire::{Error, Result};
 use std::alloc::Global;
 
-/// Returns the paths of the parts of a type that have no greatest size, in order: its texts, byte
+/// Returns the paths of the parts of a type that have no greatest size, in order: its strings, byte
 /// strings, lists and maps. The path of the type as a whole is empty.
 ///
 /// [`Step::Each`] stands for each element of a list or an array, and each entry of a map. An array

@@ -8,8 +8,8 @@ ghost use Rattle.postcard_schema_size.specs.{leaf_least, lesser_of, repeated, su
 use postcard_max::sizes::{greater, product, sum};
 use postcard_schema::{Integer, Leaf};
 
-/// The least and the greatest number of bytes of something. `None` for the least says that it
-/// exceeds `usize`, and for the greatest that none is known that fits it.
+/// The least and the greatest number of bytes of something. If the least is `None`, it exceeds
+/// `usize`. If the greatest is `None`, none is known that fits `usize`.
 #[derive(Clone, Copy)]
 pub struct Sizes {
     pub least: Option<usize>,
@@ -82,7 +82,8 @@ pub fn both(first: Sizes, second: Sizes) -> Sizes
     }
 }
 
-/// Returns the sizes of what is one of two things.
+/// Returns the sizes of a value that is one of two things: the lesser least and the greater
+/// greatest.
 pub fn either(first: Sizes, second: Sizes) -> Sizes
     ensures least { result.least ≡ lesser_of first.least second.least }
     ensures greatest { result.greatest ≡ greater_of first.greatest second.greatest }

@@ -1,4 +1,4 @@
--- The bounds of `specs/Bounds.antt` hold of each type that a text of the grammar spells.
+-- The bounds of `specs/Bounds.antt` hold of each type that a text of the grammar denotes.
 use Rattle.std.proofs.Common.{◌≡◌, ℕ, zero, suc, ◌+◌, ◌*◌, ◌≤◌, true, List, [], ◌∷◌, arith, inl, inr}
 use Rattle.postcard_schema.specs.declared.leaf.Leaf.TheVariants.{Fixed}
 use Rattle.postcard_schema.specs.declared.schema.Named.{Named}
@@ -47,7 +47,7 @@ none n = record { full = tt; low = omega arith }
 one : (n : ℕ) (t : MessageType) (ts : MessageTypes) → Bounded n t → AllBounded n ts → AllBounded n (then_type t ts)
 one n t ts b bs = record { full = (b.full, bs.full); low = omega (arith, b.low, bs.low) }
 
--- Each schema that T spells has a type bounded by n.
+-- Each schema that T denotes has a type bounded by n.
 abbrev Bounds : ℕ → (Schema → List ℕ → Type 0) → Type 0
 Bounds n T = (s : Schema) (t : List ℕ) → T s t → Bounded n (type_of s)
 

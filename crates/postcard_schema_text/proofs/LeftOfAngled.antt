@@ -117,7 +117,7 @@ pub two_take : (P Q : Types) (p : Pair) (x y s : Schema) (a b r : List ℕ) → 
 two_take P Q p x y s a b r first second (may, is) =
     takes_as (Then (P x) (Q y)) (IsOfTwo p P Q s) a r (λ t k. (x, y, may, is, k)) (takes_two (P x) (Q y) a b r first second)
 
--- The key type of a map, and what is left of it after the `=` and the `>` behind it.
+-- The key type of a map, and the text that remains after it and its `=>`.
 pub map_begins : (T : Types) (s : Schema) (a r : List ℕ) → TakesPhrase (IsMapRest T s) a r → HasFront (GoesOnBy follows_type) T a
 map_begins T s a r h = let k = two_begin (IsEndedBy T 61) (IsMapValue T) pairs.Map s a r h in ended_begins T 61 k.0 a k.1 refl k.2
 

@@ -1,4 +1,4 @@
--- What is left of a type after a `&`, after the lifetime behind it, and without a `&`.
+-- What remains of a type after a `&`, after a `&` and its lifetime, and if there is no `&`.
 use Rattle.std.proofs.Common.{◌≡◌, ℕ, zero, suc, ◌≤◌, List, [], ◌∷◌, ◌++◌, length, refl, sym, ap, ◌∙◌, subst, arith, inl, inr}
 use Rattle.postcard_schema.specs.declared.schema.Schema.{Schema}
 use Rattle.postcard_schema_text.specs.Text.{Then, TakesPhrase, IsSign, IsWord, EndsWord, IsIdentifier, TakesLifetime}
@@ -30,7 +30,7 @@ rest_as P Q f t (inl h) = inl (f t h)
 rest_as P Q f t (inr (x, y, quote, (name, named, (word, back, spelled, (apart, h), e2)), e)) =
     inr (x, y, quote, (name, named, (word, back, spelled, (apart, f back h), e2)), e)
 
--- After a `&` come as many as there are.
+-- A `&` may be followed by further `&`.
 rest_of : (T : Types) (s : Schema) (t : List ℕ) → IsReferenceRest (IsReferred T s) t → (n : ℕ) × IsReferenceRest (IsBehind n T s) t
 rest_of T s t (inl (n, h)) = (n, inl h)
 rest_of T s t (inr (x, y, quote, (name, named, (word, back, spelled, (apart, (n, h)), e2)), e)) =

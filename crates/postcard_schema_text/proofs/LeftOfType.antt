@@ -60,7 +60,7 @@ word_front T s a v b r taken ends (front, (k, name, named, h), whole) =
       left = subst (λ t. TakesPhrase (IsNamedRest T k s) t r) same.1 m.2;
     }
 
--- What is left after a word that stands for k.
+-- What remains of the text after a word that stands for k.
 pub word_rest : (T : Types) (k : TypeName) (s : Schema) (a v b r : List ℕ) → WordTaken a v b → IsTypeName v k → EndsWord r
     → TakesPhrase (IsWorded T s) a r → TakesPhrase (IsNamedRest T k s) b r
 word_rest T k s a v b r taken named ends h =

@@ -49,7 +49,7 @@ digit_at radix bs i all inside = by (is_underscore (get_or bs i 0)) refl
     by true e = inl (eqb-true (get_or bs i 0) 95 e)
     by false e = inr (digit_or radix (get_or bs i 0) (of_digits radix bs all i 0 inside) e)
 
--- The number that digits spell behind those of n, by the first of them.
+-- The number that n and further digits denote, from n and the first of these digits.
 pub value_more : (radix n b : ℕ) (bs : List ℕ) → digits_value_after radix n (without_underscores (b ∷ bs)) ≡ digits_value_after radix (with_byte radix n b) (without_underscores bs)
 value_more radix n b bs = by (is_underscore b)
   where

@@ -1,4 +1,4 @@
--- Lemmas on the front of a text: at most one sign, or one whole word, is next after blanks.
+-- Lemmas on prefixes of a text: at most one sign, or one whole word, is next after blanks.
 use Rattle.std.proofs.Common.{◌≡◌, ℕ, zero, suc, ◌+◌, ◌<◌, Bool, true, false, cond, List, [], ◌∷◌, ◌++◌, length, get_or, drop, refl, sym, ap, subst, ◌∙◌, true≢false, arith, inl, inr}
 use Rattle.std.proofs.lemmas.Bool.Decides.{nat_tests}
 use Rattle.std.proofs.lemmas.List.{append_assoc}
@@ -19,6 +19,7 @@ drop_one : (x : Bool) (n b : ℕ) (text rest : List ℕ) → drop n text ≡ res
 drop_one true n b text rest h = let e : 1 + n ≡ suc n = omega arith in ap (λ k. drop k (b ∷ text)) e ∙ h
 drop_one false n b text rest h = refl
 
+-- Dropping all leading blanks is `unblank`.
 drop_blanks : (text : List ℕ) → drop (prefix_len is_ascii_whitespace text) text ≡ unblank text
 drop_blanks [] = refl
 drop_blanks (b ∷ text) = drop_one (is_ascii_whitespace b) (prefix_len is_ascii_whitespace text) b text (unblank text) (drop_blanks text)
@@ -27,18 +28,21 @@ drop_blanks (b ∷ text) = drop_one (is_ascii_whitespace b) (prefix_len is_ascii
 pub trim_is : (s r : List ℕ) → IsTrimAsciiStart s r → r ≡ unblank s
 trim_is s r h = trim_ascii_start_is s r h ∙ drop_blanks s
 
+-- Further blanks before a text change nothing of the text without them.
 pub unblank_more : (blanks text : List ℕ) → AreBlank blanks → unblank (blanks ++ text) ≡ unblank text
 unblank_more [] text h = refl
 unblank_more (b ∷ blanks) text h =
     let e : is_ascii_whitespace b ≡ true = pass_head is_ascii_whitespace b blanks h in
     rw e (unblank_more blanks text (pass_tail is_ascii_whitespace b blanks h))
 
+-- A text of blanks alone has nothing without them.
 pub unblank_all : (blanks : List ℕ) → AreBlank blanks → unblank blanks ≡ []
 unblank_all [] h = refl
 unblank_all (b ∷ blanks) h =
     let e : is_ascii_whitespace b ≡ true = pass_head is_ascii_whitespace b blanks h in
     rw e (unblank_all blanks (pass_tail is_ascii_whitespace b blanks h))
 
+-- A text that begins with no blank is itself.
 pub unblank_black : (x : ℕ) (text : List ℕ) → is_ascii_whitespace x ≡ false → unblank (x ∷ text) ≡ x ∷ text
 unblank_black x text e = rw e refl
 
@@ -52,6 +56,7 @@ led_unblank word text rest (front, (blanks, phrase, blank, is, e), whole) =
     let all : text ≡ blanks ++ (word ++ rest) = whole ∙ ap (λ t. t ++ rest) (e ∙ ap (λ t. blanks ++ t) is) ∙ append_assoc blanks word rest in
     ap unblank all ∙ unblank_more blanks (word ++ rest) blank
 
+-- A text that begins with a sign begins with it once the blanks are dropped.
 pub sign_unblank : (sign : ℕ) (text rest : List ℕ) → is_ascii_whitespace sign ≡ false → TakesPhrase (IsSign sign) text rest → unblank text ≡ sign ∷ rest
 sign_unblank sign text rest black h = led_unblank (sign ∷ []) text rest h ∙ unblank_black sign rest black
 
@@ -87,6 +92,7 @@ one_word (x ∷ w) (y ∷ v) r q f g h k e =
     let rest = one_word w v r q (pass_tail is_of_word x w f) (pass_tail is_of_word y v g) h k (same_rest e) in
     (ap (λ z. z ∷ w) (same_first e) ∙ ap (λ z. y ∷ z) rest.0, rest.1)
 
+-- A blank is no byte of a word.
 pub blank_ends : (b : ℕ) → is_ascii_whitespace b ≡ true → is_of_word b ≡ false
 blank_ends b h = grind (arith, nat_tests)
 
@@ -133,6 +139,7 @@ pub record WordTaken (text word after : List ℕ) : Type 0 where
   pub first : unblank text ≡ word ++ after
   pub ends : EndsWord after
 
+-- What the clauses of `take_word` say, as one fact.
 pub word_taken : {text word after : List ℕ} → TakesPhrase (IsWord word) text after
     → ((trimmed : List ℕ) × IsTrimAsciiStart text trimmed × (trimmed ≡ word ++ after)) → EndsWord after → WordTaken text word after
 word_taken {text} {word} {after} (front, (pass, led), whole) (trimmed, trim, e) ends = record { bytes = pass; first = sym (trim_is text trimmed trim) ∙ e; ends = ends }

@@ -1,4 +1,4 @@
--- The grammar of type expressions: which texts spell a schema, with types nested up to a given depth.
+-- The grammar of type expressions: which texts denote a schema, with types nested up to a given depth.
 use Rattle.std.specs.Prelude.{◌≡◌, ℕ, zero, suc, ◌<◌, ◌≤◌, true, ◌⊎◌, List, [], ◌∷◌, length, Vec, Box, string_bytes}
 use Rattle.std.specs.declared.alloc.Global.{Global}
 use Rattle.postcard_schema.specs.declared.schema.Named.{Named}
@@ -17,7 +17,7 @@ use Rattle.postcard_schema_text.specs.Angled.{MayHold, IsHolderOf, IsTypeName, M
 use Rattle.postcard_schema_text.specs.Names.{NamesDiffer, IsNewTo}
 use Rattle.postcard_schema_text.specs.Text.{AreBlank, Then, IsSign, IsMaybe, IsWord, IsIdentifier, IsVariantName, EndsWord, IsCount}
 
--- One or more in a row, each spelled by P, with a sign between two of them.
+-- One or more items in a row with a sign between two of them. P says which texts denote an item.
 abbrev pub Separated : {A : Type 0} → (A → List ℕ → Type 0) → ℕ → List A → List ℕ → Type 0
 Separated P sign [] text = ⊥
 Separated P sign (x ∷ []) text = P x text
@@ -27,11 +27,11 @@ Separated P sign (x ∷ y ∷ xs) text = Then (P x) (Then (IsSign sign) (Separat
 abbrev pub IsEndedBy : (Schema → List ℕ → Type 0) → ℕ → Schema → List ℕ → Type 0
 IsEndedBy T sign s text = Then (T s) (IsSign sign) text
 
--- A type of one type, which is spelled by P.
+-- A type of one type, where P says which texts denote that type.
 abbrev pub IsOfOne : Holder → (Schema → List ℕ → Type 0) → Schema → List ℕ → Type 0
 IsOfOne h P s text = (x : Schema) × MayHold h (type_of x) × IsHolderOf h x s × P x text
 
--- A type of two types, of which the first is spelled by P and the second by Q.
+-- A type of two types, where P says which texts denote the first, and Q which denote the second.
 abbrev pub IsOfTwo : Pair → (Schema → List ℕ → Type 0) → (Schema → List ℕ → Type 0) → Schema → List ℕ → Type 0
 IsOfTwo p P Q s text = (x : Schema) × (y : Schema) × MayPair p (type_of x) (type_of y) × IsPairOf p x y s × Then (P x) (Q y) text
 
@@ -39,10 +39,12 @@ IsOfTwo p P Q s text = (x : Schema) × (y : Schema) × MayPair p (type_of x) (ty
 abbrev pub IsSeqRest : (Schema → List ℕ → Type 0) → Schema → List ℕ → Type 0
 IsSeqRest T s text = (b : Box Schema Global) × (s ≡ Seq b) × (has_bytes (type_of b.value) ≡ true) × Then (T b.value) (IsSign 93) text
 
+-- What follows the `[` of an array: an element type with bytes, `;`, a count and `]`.
 abbrev pub IsArrayRest : (Schema → List ℕ → Type 0) → Schema → List ℕ → Type 0
 IsArrayRest T s text =
     (b : Box Schema Global) × (n : ℕ) × (s ≡ Array b n) × (has_bytes (type_of b.value) ≡ true) × Then (T b.value) (Then (IsSign 59) (Then (IsCount n) (IsSign 93))) text
 
+-- What follows a `[`: the rest of a list or of an array.
 abbrev pub IsListRest : (Schema → List ℕ → Type 0) → Schema → List ℕ → Type 0
 IsListRest T s text = IsSeqRest T s text ⊎ IsArrayRest T s text
 
@@ -66,7 +68,7 @@ abbrev pub IsFieldsRest : (Schema → List ℕ → Type 0) → Schema → List �
 IsFieldsRest T s text = (v : Vec (Named Schema) Global) × (s ≡ Struct v) × NamesDiffer v.items
     × Then (Separated (IsField T) 44 v.items) (Then (IsMaybe 44) (IsSign 125)) text
 
--- The value type of a map, after the `=` behind its key type: `>`, the type and `}`.
+-- The value type of a map, after its key type and the `=`: `>`, the type and `}`.
 abbrev pub IsMapValue : (Schema → List ℕ → Type 0) → Schema → List ℕ → Type 0
 IsMapValue T s text = Then (IsSign 62) (IsEndedBy T 125 s) text
 
@@ -108,7 +110,7 @@ IsLifetimeRest P text = (name : List ℕ) × IsIdentifier name × Then (IsWord n
 abbrev pub IsReferenceRest : (List ℕ → Type 0) → List ℕ → Type 0
 IsReferenceRest P text = P text ⊎ Then (IsSign 39) (IsLifetimeRest P) text
 
--- A type that is no enum, behind n times `&`.
+-- A type that is no enum, after n times `&`.
 abbrev pub IsBehind : ℕ → (Schema → List ℕ → Type 0) → Schema → List ℕ → Type 0
 IsBehind zero T s text = IsPlain T s text
 IsBehind (suc n) T s text = Then (IsSign 38) (IsReferenceRest (IsBehind n T s)) text
@@ -117,7 +119,7 @@ IsBehind (suc n) T s text = Then (IsSign 38) (IsReferenceRest (IsBehind n T s)) 
 abbrev pub IsReferred : (Schema → List ℕ → Type 0) → Schema → List ℕ → Type 0
 IsReferred T s text = (n : ℕ) × IsBehind n T s text
 
--- A type spelled by P, followed by n times `?`.
+-- A type with n times `?` after it, where P says which texts denote the type without these.
 abbrev pub IsOptions : ℕ → (Schema → List ℕ → Type 0) → Schema → List ℕ → Type 0
 IsOptions zero P s text = P s text
 IsOptions (suc n) P s text = (b : Box Schema Global) × (s ≡ Option b) × Then (IsOptions n P b.value) (IsSign 63) text
@@ -146,11 +148,11 @@ abbrev pub IsEnumText : (Schema → List ℕ → Type 0) → Schema → List ℕ
 IsEnumText T s text = (v : Vec (Named Schema) Global) × (s ≡ Enum v) × NamesDiffer v.items
     × Then (IsLead (length v.items)) (Separated (IsVariantText T) 124 v.items) text
 
--- Any type, where the types in its brackets are spelled by T.
+-- Any type, where T says which texts denote the types in its brackets.
 abbrev pub IsTypeOver : (Schema → List ℕ → Type 0) → Schema → List ℕ → Type 0
 IsTypeOver T s text = IsEnumText T s text ⊎ ((n : ℕ) × (n ≤ 4) × IsOptions n (IsReferred T) s text)
 
--- The text spells the type, with types nested at most n deep in brackets, where the type itself has depth 1.
+-- The text denotes the type, with types nested at most n deep in brackets, where the type itself has depth 1.
 unfoldable pub IsType : ℕ → Schema → List ℕ → Type 0
 IsType zero s text = ⊥
 IsType (suc depth) s text = IsTypeOver (IsType depth) s text

@@ -1,4 +1,4 @@
--- Lemmas on literals: a text spells one number at most, in bytes of a word, and which one.
+-- Lemmas on literals: a text denotes one number at most, in bytes of a word, and which one.
 use Rattle.std.proofs.Common.{◌≡◌, ℕ, zero, suc, ◌<◌, ◌≤◌, Bool, true, false, cond, List, [], ◌∷◌, length, get_or, refl, sym, ap, subst, ◌∙◌, true≢false, arith, ◌⊎◌, inl, inr}
 use Rattle.std.proofs.lemmas.Bool.Decides.{nat_tests}
 use Rattle.std.specs.Char.{is_digit}
@@ -25,17 +25,21 @@ of_digits radix (b ∷ bs) all = by (is_underscore b) refl all (of_digits radix 
         let digit : is_digit b radix ≡ true = grind (arith, nat_tests, low) in
         pass_cons (is_of_digits radix) b bs (rw e digit) (rest h.1)
 
+-- The radix 0 has no digits.
 no_digits : (ds : List ℕ) → IsNumeral 0 ds → ⊥
 no_digits [] (some, all) = omega (arith, some)
 no_digits (d ∷ ds) (some, all) = omega (arith, all.0)
 
+-- A radix with a number is at least 2.
 radix_or : (radix : ℕ) (ds : List ℕ) → (radix ≡ 0) ⊎ (2 ≤ radix) → IsNumeral radix ds → 2 ≤ radix
 radix_or radix ds (inl e) numeral = absurd (no_digits ds (subst (λ r. IsNumeral r ds) e numeral))
 radix_or radix ds (inr low) numeral = low
 
+-- A letter stands for no radix, or for one of at least 2.
 radixes : (letter : ℕ) → (radix_of letter ≡ 0) ⊎ (2 ≤ radix_of letter)
 radixes letter = grind (arith, nat_tests)
 
+-- A letter stands for a radix of at most 16.
 most : (letter : ℕ) → radix_of letter ≤ 16
 most letter = grind (arith, nat_tests)
 
@@ -43,7 +47,7 @@ most letter = grind (arith, nat_tests)
 no_decimal : (letter : ℕ) → 2 ≤ radix_of letter → is_of_digits 10 letter ≡ false
 no_decimal letter low = grind (arith, nat_tests, low)
 
--- A literal with a letter that stands for a radix has digits of that.
+-- A literal with a letter that stands for a radix has digits of that radix.
 pub marked_is : (n letter : ℕ) (digits text : List ℕ) → text ≡ 48 ∷ letter ∷ digits → 2 ≤ radix_of letter → IsLiteral n text → AreDigits (radix_of letter) n digits
 marked_is n letter digits text is low (inl (first, ((some, all), e))) =
     let pass = subst (AllPass (is_of_digits 10)) is (of_digits 10 text all) in
@@ -59,7 +63,7 @@ plain_is n text none (inl h) = h
 plain_is n text none (inr (letter, digits, h, e)) =
     absurd (no_digits (without_underscores digits) (subst (λ r. IsNumeral r (without_underscores digits)) (none letter digits e) h.0))
 
--- A text spells one number.
+-- A text denotes at most one number.
 pub one_literal : (n m : ℕ) (text : List ℕ) → IsLiteral n text → IsLiteral m text → n ≡ m
 one_literal n m text (inl a) (inl b) = a.1.1 ∙ sym b.1.1
 one_literal n m text (inr (letter, digits, a, e)) b =
@@ -72,6 +76,7 @@ one_literal n m text (inl a) (inr (letter, digits, b, e)) =
 digit_of_word : (radix b : ℕ) → radix ≤ 16 → is_of_digits radix b ≡ true → is_of_word b ≡ true
 digit_of_word radix b high h = grind (arith, nat_tests, high, h)
 
+-- The digits of a literal are bytes of a word.
 digits_of_word : (radix : ℕ) (bs : List ℕ) → radix ≤ 16 → AllDigits radix (without_underscores bs) → AllPass is_of_word bs
 digits_of_word radix bs high all = λ k d inside. digit_of_word radix (get_or bs k d) high (of_digits radix bs all k d inside)
 

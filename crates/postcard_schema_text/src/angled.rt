@@ -1,5 +1,6 @@
-//! Types of Rust that have types in `<` and `>`, such as `Vec<T>`, and their schemas. Each function
-//! fails at the front of `start`, and with `OutOfMemory` if an allocation fails.
+//! Types of Rust that have types in `<` and `>`, such as `Vec<T>`, and their schemas. The place of
+//! an error is the first byte of `start`. Each function fails with `OutOfMemory` if an allocation
+//! fails.
 
 ghost use Rattle.std.specs.Prelude.{◌≡◌, IfOk, IfErr, IfSome, IfNone};
 ghost use Rattle.postcard_schema.specs.{type_of};

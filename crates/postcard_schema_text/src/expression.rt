@@ -20,9 +20,9 @@
 //!
 //! A word is the name of a type without parts ([`crate::names`]), or of one that has types in `<`
 //! and `>` ([`crate::angled`]). A type that begins with a capital letter is an enum if `|`, `(` or
-//! `{` follows its first word, and else that word names a type of Rust. So `String | Number` is an
-//! enum, and `[String]` a list of texts. `&T` is the type `T`, since a reference is written as what
-//! it refers to; the name of a lifetime begins with no digit.
+//! `{` follows its first word. Otherwise that word names a type of Rust. So `String | Number` is an
+//! enum, and `[String]` is a list of strings. `&T` is the type `T`, since a reference is written as
+//! what it refers to; the name of a lifetime begins with no digit.
 
 ghost use Rattle.std.specs.Prelude.{◌≡◌, ◌+◌, ◌≤◌, IfOk, IfErr};
 ghost use Rattle.postcard_schema.specs.{type_of};
@@ -40,8 +40,7 @@ use std::alloc::Global;
 const MAX_DEPTH: usize = 64;
 
 /// Reads a type expression, such as `{id: u16, label: str, samples: [i32]}`, and returns its type.
-/// Each text of the grammar of this module is accepted, but for the limits that [`Problem`] names,
-/// if no allocation fails.
+/// It accepts the grammar of this module, within the limits that [`Problem`] names.
 ///
 /// # Errors
 ///

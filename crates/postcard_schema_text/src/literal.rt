@@ -1,8 +1,8 @@
 //! Numbers as Rust writes them: the integer literals without the name of a type at their end.
 //!
-//! The digits are decimal, after `0b` binary, after `0o` octal, and after `0x` hexadecimal, in either
-//! case. A `_` may stand behind any digit, and before the first one after `0b`, `0o` or
-//! `0x`: `1_024`, `0b1010`, `0o17`, `0xdead_beef`, `0x_ff`.
+//! The digits are decimal, after `0b` binary, after `0o` octal, and after `0x` hexadecimal, in
+//! either case. A `_` may stand after any digit, and before the first one after `0b`, `0o` or `0x`:
+//! `1_024`, `0b1010`, `0o17`, `0xdead_beef`, `0x_ff`.
 
 ghost use Rattle.std.specs.Prelude.{◌≡◌, ◌⊎◌, ℕ, ◌^◌, ◌<◌, ◌≤◌, List, ◌∷◌, Decides, IfOk, IfErr};
 ghost use Rattle.std.specs.Prelude.{IfSome, IfNone, SomeIff, slice_index};
@@ -10,7 +10,7 @@ ghost use Rattle.postcard_schema_text.specs.{AllPass, AreDigits, IsLiteral, IsNo
 ghost use Rattle.postcard_schema_text.specs.{digit_value, is_of_digits, is_underscore, radix_of};
 ghost use Rattle.postcard_schema_text.specs.{with_byte, without_underscores};
 
-/// Why a word spells no number that fits.
+/// Why a word denotes no number that fits.
 #[derive(Clone, Copy, Debug, PartialEq, Eq)]
 pub enum LiteralError {
     /// The word is no integer literal.
@@ -19,8 +19,8 @@ pub enum LiteralError {
     TooLarge,
 }
 
-/// Returns the number that a word spells. Fails with `Malformed` if the word is no integer literal,
-/// and with `TooLarge` if it is one of a number that `u128` doesn't hold.
+/// Returns the number that a word denotes. Fails with `Malformed` if the word is no integer
+/// literal, and with `TooLarge` if it is one of a number that `u128` doesn't hold.
 pub fn number_of(word: &[u8]) -> Result<u128, LiteralError>
     ensures spelled { IfOk result (λ n. IsLiteral n word.now) }
     ensures refused { IfErr result (λ e. IsNoNumber (λ n. IsLiteral n word.now) e) }
@@ -32,8 +32,8 @@ pub fn number_of(word: &[u8]) -> Result<u128, LiteralError>
     }
 }
 
-/// Returns the radix that the `0` and the letter at the front of a word stand for, and what follows
-/// them, or `None` if they stand for none.
+/// Returns the radix that `0` and a letter at the start of a word stand for, and the bytes after
+/// them. Returns `None` if they stand for no radix.
 fn marked(word: &[u8]) -> Option<(u32, &[u8])>
     ensures found { IfSome result (λ found. (found.0 ≡ radix_of (slice_index word.now 1))
         × (word.now ≡ 48 ∷ slice_index word.now 1 ∷ found.1.now)) }
@@ -50,7 +50,7 @@ fn marked(word: &[u8]) -> Option<(u32, &[u8])>
     }
 }
 
-/// Returns the number that digits of a radix spell. Fails as [`number_of`] does.
+/// Returns the number that digits of a radix denote. Fails as [`number_of`] does.
 fn digits_of(digits: &[u8], radix: u32) -> Result<u128, LiteralError>
     requires low { 2 ≤ radix }
     requires high { radix ≤ 16 }
@@ -70,7 +70,7 @@ fn digits_of(digits: &[u8], radix: u32) -> Result<u128, LiteralError>
     Ok(number)
 }
 
-/// Returns the number with one more digit of the radix behind it, or as it is for a `_`. Returns
+/// Returns the number with one more digit of the radix after it, or as it is for a `_`. Returns
 /// `None` if it is then 2^128 or more.
 fn with_digit(number: u128, byte: u8, radix: u32) -> Option<u128>
     requires low { 2 ≤ radix }

@@ -1,8 +1,8 @@
-//! Functions that take signs, words and counts from the front of a text.
+//! Functions that take signs, words and counts from the start of a text.
 //!
-//! The parameter `rest` is the part of the text that isn't read yet; what a function takes is
-//! dropped from its front. Blanks are the white space of ASCII. A function fails with `OutOfMemory`
-//! at the front of `rest` if an allocation fails.
+//! The parameter `rest` is the remaining text. A function advances it past what it takes. Blanks
+//! are the white space of ASCII. If an allocation fails, a function fails with `OutOfMemory` at the
+//! first byte of `rest`.
 
 ghost use Rattle.std.specs.Prelude.{◌≡◌, ℕ, ◌+◌, ◌-◌, ◌++◌, ◌≤◌, List, [], ◌∷◌};
 ghost use Rattle.std.specs.Prelude.{true, false, take, length, Decides, IfOk, IfErr, OnErr, OnOk};
@@ -25,7 +25,7 @@ pub struct ProblemAt {
     pub left: usize,
 }
 
-/// Returns this problem at the front of `rest`.
+/// Returns this problem, with the first byte of `rest` as its place.
 pub fn problem_at(problem: Problem, rest: &[u8]) -> ProblemAt
     ensures problem { result.problem ≡ problem }
     ensures left { result.left ≡ length rest.now }
@@ -36,8 +36,9 @@ pub fn problem_at(problem: Problem, rest: &[u8]) -> ProblemAt
     }
 }
 
-/// Returns what is wrong with a text that is refused for what was found. If a letter beyond ASCII
-/// follows the word there, or is where a word goes on or is expected, it is that letter.
+/// Returns the problem `found`, or `AsciiExpected` if its cause is a letter beyond ASCII. That is
+/// so if such a letter follows the word at its place, or stands where a word is expected or goes
+/// on.
 pub fn or_letter(found: ProblemAt, text: &[u8]) -> ProblemAt
     ensures { found.problem ≡ Problem.OutOfMemory → result.problem ≡ Problem.OutOfMemory }
 {
@@ -75,15 +76,15 @@ pub fn character_of(text: &[u8], left: usize) -> usize
     before.iter().filter(|byte| **byte & 0xC0 != 0x80).count() + 1
 }
 
-/// Takes all blanks at the front.
+/// Takes all blanks at the start of `rest`.
 pub fn skip_blanks(rest: &mut &[u8])
     ensures { IsTrimAsciiStart rest.old.now rest.new.now }
 {
     *rest = rest.trim_ascii_start();
 }
 
-/// Takes the blanks at the front and then `byte`, and returns `true`; or, if something else follows
-/// the blanks, takes nothing and returns `false`.
+/// Takes blanks and then `byte`, and returns `true`. If something else follows the blanks, takes
+/// nothing and returns `false`.
 pub fn take(rest: &mut &[u8], byte: u8) -> bool
     ensures taken { result ≡ true → TakesPhrase (IsSign byte) rest.old.now rest.new.now }
     ensures left { result ≡ false → rest.new.now ≡ rest.old.now }
@@ -99,8 +100,8 @@ pub fn take(rest: &mut &[u8], byte: u8) -> bool
     }
 }
 
-/// Takes the blanks at the front and then `byte`. Fails with `problem` at what follows the blanks
-/// if it is something else. The blanks are taken then.
+/// Takes blanks and then `byte`. If something else follows the blanks, takes the blanks and fails
+/// with `problem` at what follows them.
 pub fn expect(rest: &mut &[u8], byte: u8, problem: Problem) -> Result<(), ProblemAt>
     ensures taken { OnOk result (TakesPhrase (IsSign byte) rest.old.now rest.new.now) }
     ensures refused { IfErr result (λ found. (found.problem ≡ problem)
@@ -115,8 +116,8 @@ pub fn expect(rest: &mut &[u8], byte: u8, problem: Problem) -> Result<(), Proble
     Err(problem_at(problem, rest))
 }
 
-/// Takes the blanks at the front and then a word, and returns the word: all letters and digits of
-/// ASCII and `_` up to another byte. It may be empty.
+/// Takes blanks and then a word, and returns the word. A word is all letters and digits of ASCII
+/// and `_` up to another byte. It may be empty.
 pub fn take_word<'a>(rest: &mut &'a [u8]) -> &'a [u8]
     ensures taken { TakesPhrase (IsWord result.now) rest.old.now rest.new.now }
     ensures first { (text : List ℕ) × IsTrimAsciiStart rest.old.now text
@@ -172,7 +173,7 @@ pub fn skip_lifetime(rest: &mut &[u8]) -> Result<(), ProblemAt>
     Ok(())
 }
 
-/// Takes the blanks at the front and then the count of an array, which it returns: an integer
+/// Takes blanks and then the count of an array, and returns the count. A count is an integer
 /// literal, as `16`, `0x10` or `1_024`. Fails with `CountExpected` if the next word isn't one, and
 /// with `CountTooLarge` if the count doesn't fit in a `usize`.
 pub fn take_count(rest: &mut &[u8]) -> Result<usize, ProblemAt>
@@ -207,8 +208,7 @@ pub fn boxed(alloc: Global, schema: Schema, rest: &[u8]) -> Result<Box<Schema>, 
     }
 }
 
-/// Returns a type with a name. Also fails with `FieldExpected`, at the front of `rest`, if the name
-/// is not UTF-8.
+/// Returns a type with a name. Also fails with `FieldExpected` if the name is not UTF-8.
 pub fn named(
     alloc: Global,
     name: &[u8],

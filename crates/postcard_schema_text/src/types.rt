@@ -103,8 +103,8 @@ fn read_worded(alloc: Global, rest: &mut &[u8], depth: usize) -> Result<Schema, 
     }
 }
 
-/// Takes the `<` after the name of a type, with which `name` begins, or fails with `UnknownType` at
-/// the name if something else follows it.
+/// Takes the `<` after the name of a type. Fails with `UnknownType` at the name, with which `name`
+/// begins, if something else follows it.
 fn open_angle(rest: &mut &[u8], name: &[u8]) -> Result<(), ProblemAt>
     ensures taken { OnOk result (TakesPhrase (IsSign 60) rest.old.now rest.new.now) }
     ensures none { OnErr result ((after : List ℕ)

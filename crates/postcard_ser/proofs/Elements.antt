@@ -12,7 +12,7 @@ module _ {A : Type 0} (f : A → Tree) where
   elements_append [] ys = refl
   elements_append (x ∷ xs) ys = ap (λ z. canonical (f x) ++ z) (elements_append xs ys) ∙ sym (append_assoc (canonical (f x)) (canonical_all (trees (map f xs))) (canonical_all (trees (map f ys))))
 
-  -- A list has as many trees as elements.
+  -- A list has one tree for each element.
   pub elements_count : (xs : List A) → count (trees (map f xs)) ≡ length xs
   elements_count [] = refl
   elements_count (x ∷ xs) = ap (λ n. suc n) (elements_count xs)

@@ -51,7 +51,7 @@ module _ {S O V : Type 0} {F : Ghosts S O} {s : Shape V} where
     fits = all_append s.fits w.done front w.fits b.fits;
   }
 
-  -- The encodings of all are those before the rest, those of a block, and those of the others.
+  -- The encodings of all elements are those already written, those of a block, and those of the remaining elements.
   whole : {items rest : List V} {bytes : List ℕ} {n : ℕ} {old mid : S} (w : Written F s items rest old mid)
       (b : IsBlock s rest bytes n) → encoded F s w.done ++ (bytes ++ encoded F s (drop n rest)) ≡ encoded F s items
   whole {rest} {n} w b =

@@ -9,8 +9,8 @@ use Rattle.postcard_wire.specs.Spelling.{canonical, canonical_all}
 use Rattle.postcard_wire.specs.declared.error.Error.{Error}
 use Rattle.postcard_wire.specs.declared.error.Error.TheVariants.{SerializeBufferFull, CollectStrError}
 
--- The error of a call whose flavor refused a piece, or, if `text` holds, in whose text a piece was
--- refused or the printing failed (behaviour of postcard 1.1.3).
+-- The error of a call whose flavor refused a piece. If `text` holds, it may also be the error of a printed text: a piece of it was refused,
+-- or printing failed (behaviour of postcard 1.1.3).
 abbrev pub IsWriteError : Type 0 → Error → Type 0
 IsWriteError text e = (e ≡ SerializeBufferFull) ⊎ (text × (e ≡ CollectStrError))
 
@@ -19,11 +19,9 @@ IsWriteError text e = (e ≡ SerializeBufferFull) ⊎ (text × (e ≡ CollectStr
 abbrev pub IsErrorOf : {V : Type 0} → Shape V → V → Error → Type 0
 IsErrorOf s v e = IsWriteError s.text e ⊎ s.refusal v e
 
--- The call, whose task was to pass the bytes xs to the flavor s, returned r and left t. After a
--- success, just xs is appended. If s has room for xs, an error is one of `refusal`, by which what
--- is written refuses itself; without room also that of a refused piece. If it refuses itself by no
--- error, and the flavor is tidy, an error leaves a beginning of xs appended. In any case pushes may
--- leave t.
+-- The call, whose task was to pass the bytes xs to the flavor s, returned r and left t. After a success, just xs is appended. If s has room
+-- for xs, an error is one of `refusal`, with which the value refuses itself. Without room it may also be the error of a refused piece. If
+-- it refuses itself by no error, and the flavor is tidy, an error leaves a beginning of xs appended. In any case pushes may leave t.
 pub record Wrote {S O : Type 0} (F : Ghosts S O) (s : S) (xs : List ℕ) (refusal : Error → Type 0) (text : Type 0) (r : Result (Unit {0}) Error) (t : S) : Type 0 where
   pub appends : OnOk r (F.appended s xs t)
   pub has_room : F.room s xs → IfErr r refusal

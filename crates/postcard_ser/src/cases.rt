@@ -8,9 +8,9 @@ use crate::serializer::Serializer;
 use postcard_ser_flavors::Flavor;
 use postcard_wire::Result;
 
-/// Writes a variant of an enum: its index as a varint of 1 to 5 bytes, and then its content, which
-/// is `&()` for a variant without fields. Fails with `SerializeBufferFull` if the flavor refuses
-/// the index, and else as the content does.
+/// Writes a variant of an enum: its index as a varint of 1 to 5 bytes, and then its content. A
+/// variant without fields has the content `&()`. Fails with `SerializeBufferFull` if the flavor
+/// refuses the index, and otherwise as the content does.
 pub fn serialize_variant<T: Serialize, F: Flavor>(
     index: u32,
     content: &T,

@@ -1,5 +1,5 @@
-//! A value written as the text that it prints: the text is counted in a first pass, and written in
-//! a second.
+//! Writes a value as the string that it prints. A first pass counts the string's bytes, and a
+//! second one writes them.
 
 ghost use Rattle.std.specs.Prelude.{◌≡◌, ◌↔◌, ◌+◌, ◌^◌, ◌<◌, length, ⊤, IsOk, OnOk, IfOk, IfErr};
 ghost use Rattle.std.specs.Prelude.{IsErrOf, IsUtf8, IfSome};
@@ -13,7 +13,7 @@ use std::fmt;
 use std::fmt::{Display, Formatter, Write};
 use std::marker::{Brand, PhantomData};
 
-/// Counts the bytes of a text. A count above `usize::MAX` is a formatting error.
+/// Counts the bytes of the printed text. A count above `usize::MAX` is a formatting error.
 #[derive(Drop)]
 struct CountWriter {
     count: usize,
@@ -46,7 +46,7 @@ impl<F> Lasting<F> for Brand {
     ghost lasts = { λ _. ⊤ };
 }
 
-/// Writes the pieces of a text to a flavor. A refused piece is a formatting error.
+/// Writes the pieces of the printed text to a flavor. A refused piece is a formatting error.
 struct FmtWriter<F: Flavor, K: Lasting<F>> {
     output: F,
     of: PhantomData<K>,
@@ -78,8 +78,8 @@ fn count_text<T: Display>(value: &T) -> std::result::Result<usize, fmt::Error>
     Ok(writer.count)
 }
 
-/// Writes what a value prints, and returns the flavor, of which `lasts` still holds, with the
-/// result.
+/// Writes what a value prints, and returns the flavor with the result. `lasts` still holds of the
+/// flavor.
 fn write_text<T: Display, F: Flavor, K: Lasting<F>>(output: F, value: &T) -> (F, fmt::Result)
     requires lasts { K.lasts output }
     requires kept { (s t : F) → K.lasts s → F.Flavor.reaches s t → K.lasts t }
@@ -97,7 +97,7 @@ fn write_text<T: Display, F: Flavor, K: Lasting<F>>(output: F, value: &T) -> (F,
     (output, result)
 }
 
-/// Does the same, and pushes reach the flavor returned.
+/// Does what [`write_text`] does, with a clause that pushes led to the flavor returned.
 fn print<T: Display, F: Flavor>(output: F, value: &T) -> (F, fmt::Result)
     ensures appends { OnOk result.1
         (IfSome (T.output value.now) (λ u. F.appended output u result.0)) }
@@ -107,13 +107,14 @@ fn print<T: Display, F: Flavor>(output: F, value: &T) -> (F, fmt::Result)
 }
 
 impl<F: Flavor> Serializer<F> {
-    /// Writes the text that a value prints: the number of its bytes as a varint of 1 to 10 bytes,
-    /// and then the bytes. The value is formatted twice, first to count; both passes must print the
+    /// Writes the string that a value prints: the number of its bytes as a varint of 1 to 10 bytes,
+    /// and then the bytes. The value is formatted twice, first to count. Both passes must print the
     /// same text, which the prover knows by `output`.
     ///
-    /// Fails with `CollectStrError` if the text fails to format, is longer than `usize::MAX` bytes,
-    /// or is refused by the flavor, and with `SerializeBufferFull` if the flavor refuses the count.
-    /// After `CollectStrError` the flavor may have taken the count and some bytes of the text.
+    /// Fails with `SerializeBufferFull` if the flavor refuses the count. Fails with
+    /// `CollectStrError` if formatting fails, if the text is longer than `usize::MAX` bytes, or if
+    /// the flavor refuses it. After `CollectStrError` the flavor may have taken the count and some
+    /// bytes of the text.
     pub fn collect_str<T: Display>(&mut self, value: &T) -> Result<()>
         ensures writes { IfSome (T.output value.now)
             (λ u. Wrote F.Flavor self.old.output (canonical (Text u))

@@ -14,7 +14,7 @@ use postcard_wire::Result;
 /// A struct writes the tuple of its fields, as `(&self.name, &self.count).serialize(serializer)`,
 /// and an enum the variant of each arm of a `match` by `serialize_variant`.
 pub trait SerializeRepr: Repr {
-    /// Does what `serialize` of the value that `repr` makes of this one does.
+    /// Writes this value as `serialize` writes the value that `repr` makes of it.
     fn serialize_repr<F: Flavor>(&self, serializer: &mut Serializer<F>) -> Result<()>
         ensures wrote { Wrote F.Flavor serializer.old.output
             (canonical (Self.As.shape.tree (Self.repr self.now)))

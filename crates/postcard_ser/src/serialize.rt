@@ -1,4 +1,4 @@
-//! The trait of all types that are written.
+//! The trait of types that can be encoded.
 
 ghost use Rattle.std.specs.Prelude.{OnOk};
 ghost use Rattle.postcard_ser.specs.{Wrote, canonical};
@@ -8,23 +8,23 @@ use postcard_ser_flavors::Flavor;
 use postcard_shape::Shaped;
 use postcard_wire::Result;
 
-/// A type whose values are written, as their shape says.
+/// A type whose values can be encoded. Its shape says as which tree.
 ///
-/// Your own struct or enum implements `SerializeRepr`, and gets this trait by that. A type that
-/// implements `Shaped` itself implements this trait itself, too.
+/// Your own struct or enum implements `SerializeRepr`, which gives it this trait. A type that
+/// implements `Shaped` by hand implements this trait by hand, too.
 pub trait Serialize: Shaped {
     /// Writes the canonical encoding of the value's tree.
     ///
     /// # Errors
     ///
     /// Fails with `SerializeBufferFull` if the flavor refuses a piece. A type that is written as
-    /// the text that it prints may fail with `CollectStrError` instead, also if it fails to print.
-    /// A type may refuse some of its values, with the errors that its shape names. A value is
-    /// refused if a part of it is. If the flavor has room for the encoding, no other error is
+    /// the string that it prints may fail with `CollectStrError` instead, also if it fails to
+    /// print. A type may refuse some of its values, with the errors that its shape names. A value
+    /// is refused if a part of it is. If the flavor has room for the encoding, no other error is
     /// returned.
     ///
-    /// What the flavor took before the error stays in it. Over a tidy flavor that is a beginning of
-    /// the encoding, or nothing. If a value is refused, it may be other bytes.
+    /// What the flavor took before the error stays in it. Over a tidy flavor that is a prefix of
+    /// the encoding, which may be empty. If a value is refused, it may be other bytes.
     fn serialize<F: Flavor>(&self, serializer: &mut Serializer<F>) -> Result<()>
         ensures wrote { Wrote F.Flavor serializer.old.output (canonical (Self.shape.tree self.now))
             (Self.shape.refusal self.now) Self.shape.text result serializer.new.output }

@@ -1,5 +1,5 @@
-//! The calls by which a type writes itself, one for each node of the format: here those for
-//! numbers, texts and lists.
+//! The calls by which a type writes itself, one for each node of the format. This file has those
+//! for numbers, strings and lists.
 
 ghost use Rattle.std.specs.Prelude.{◌≡◌, [], ◌∷◌, ◌++◌, length, map, false, IsOk, IsErrOf, IfSome};
 ghost use Rattle.postcard_ser.specs.{Byte, IfNone, Int, Num, Seq, Serializes, SerializesBytes};
@@ -19,20 +19,21 @@ use postcard_wire::{Error, Result};
 
 /// Writes values into a flavor.
 ///
-/// A call that begins a list, a map, a tuple, a struct or a variant of `len` parts needs exactly
-/// `len` calls for these parts after it. Each writes its part as the part's own `serialize` does.
+/// Some calls begin a list, a map, a tuple, a struct or a variant of `len` parts. Exactly `len`
+/// calls for these parts must follow. Each writes its part as the part's own `serialize` does.
 /// Their number is not checked. The names of structs, fields and variants aren't written.
 ///
 /// An index is a varint of 1 to 5 bytes, and a count or a length one of 1 to 10. Any other integer
-/// is one byte if it has 8 bits, in two's complement if signed. Else it is a varint of at most 3,
-/// 5, 10 or 19 bytes for 16, 32, 64 or 128 bits, of the zigzag encoding if signed.
+/// of 8 bits is one byte, in two's complement if signed. A wider one is a varint of at most 3, 5,
+/// 10 or 19 bytes for 16, 32, 64 or 128 bits. The varint of a signed integer is that of its zigzag
+/// encoding.
 ///
 /// # Errors
 ///
 /// If the flavor refuses a piece, a call fails with `SerializeBufferFull`, whatever the flavor's
-/// own error is; only in the text of `collect_str` the error is `CollectStrError`. A call for a
-/// part of a value also fails as that part's own `serialize` does, and a list or a map without a
-/// length with `SerializeSeqLengthUnknown`, before anything is written. A call that writes nothing
+/// own error is. Only in the text of `collect_str` the error is `CollectStrError`. A call for a
+/// part of a value also fails as that part's own `serialize` does. A list or a map without a length
+/// fails with `SerializeSeqLengthUnknown`, before anything is written. A call that writes nothing
 /// never fails. What the flavor took before the error stays in it, as `Serialize::serialize` says.
 #[derive(Drop)]
 pub struct Serializer<F: Flavor> {
@@ -155,14 +156,14 @@ impl<F: Flavor> Serializer<F> {
         self.serialize_u128(zig_zag_i128(v))
     }
 
-    /// Writes the number of the text's bytes, and then the bytes.
+    /// Writes the number of the string's bytes, and then the bytes.
     pub fn serialize_str(&mut self, v: &str) -> Result<()>
         ensures { SerializesTree F.Flavor (Text v.now) self.old result self.new }
     {
         self.extend_counted(v.as_bytes())
     }
 
-    /// Writes the number of the bytes, and then the bytes, as of a list of `u8`.
+    /// Writes the number of the bytes, and then the bytes, like a list of `u8`.
     #[tactic(auto, using(crate::proofs::Elements::elements_count, postcard_shape::proofs::Bytes::bytes_of_bytes))]
     pub fn serialize_bytes(&mut self, v: &[u8]) -> Result<()>
         ensures { SerializesTree F.Flavor (Seq (trees (map Byte v.now))) self.old result self.new }

@@ -1,5 +1,5 @@
-//! The types of std and of `arrayvec` that are written, a module for each kind. What is said there
-//! of elements, keys, entries and parts holds of each as its own `serialize` writes it.
+//! The impls for the types of std and of `arrayvec`, a module for each kind. Elements, keys,
+//! entries and parts are each written by their own `serialize`.
 
 mod c_strings;
 mod error;

@@ -89,7 +89,7 @@ field_more xs i x done front low found d f =
     let more : take (i + 1) xs ≡ take i xs ++ x ∷ [] = take_more xs i x low ∙ ap (λ y. take i xs ++ y ∷ []) (sym found) in
     rw (more, contents_join (take i xs) (x ∷ [])) (parts_more (contents (take i xs)) x.content done front d f)
 
--- A number that is read is in its range, and spelled by the front.
+-- A number that is read is in its range, and the prefix encodes it.
 pub number_read : (w : ℕ) (tree : Tree) (v : ℕ) (front : List ℕ) → IsNum w tree → tree ≡ Num w v → Spells tree front
     → (v < 2 ^ w) × SpellsNum w v front
 number_read w tree v front (n, is, low) e s = (rw (num_same w v n (sym e ∙ is)) low, rw e at s)

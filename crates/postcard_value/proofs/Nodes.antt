@@ -32,7 +32,7 @@ use Rattle.postcard_value.proofs.Rows.{each_tree}
 group_same : (ts us : Trees) → Group ts ≡ Group us → ts ≡ us
 group_same ts us e = cc
 
--- Trees of bytes that are those of a list: the list has as many, each a byte.
+-- Trees of bytes that are those of a list: the list has that many elements, each a byte.
 array_bytes : (ts : Trees) (bs : List ℕ) → Each IsByte ts → EachIs (λ s b. s ≡ Byte b) ts bs → AreBytes bs × (length bs ≡ count ts)
 array_bytes NoTrees [] r h = (tt, refl)
 array_bytes NoTrees (b ∷ bs) r h = absurd h

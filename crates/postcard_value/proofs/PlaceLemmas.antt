@@ -77,7 +77,8 @@ pub none_found : (s : Schema) (bytes : List ℕ) (old new : List Step) (found : 
     → (HasNoFront s bytes → StopsHere s bytes) × (new ≡ old)
 none_found s bytes old new found is h = rw is at h
 
--- If reading the whole stops where reading the part x does, it stops where reading a part of x does, and at the first node of x.
+-- Suppose that reading the whole value s stops where reading its part x stops. Then the same holds of each part of x, and of the first node
+-- of x.
 module _ (s x : Schema) (bytes done rest : List ℕ) (now new : List Step)
     (so : (path : List Step) (offset : ℕ) → StopsAt x rest path offset → StopsAt s bytes (now ++ path) (length done + offset)) where
   pub stops_inside : (y : Schema) (after : List ℕ) (d : Entered x rest now new y after) (path : List Step) (offset : ℕ) → StopsAt y after path offset

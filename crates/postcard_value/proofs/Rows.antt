@@ -45,7 +45,7 @@ field_next xs i x low is = ap (λ ys. types_of (contents ys)) (drop_more xs i x 
 
 -- ---- what a loop has read
 
--- However reading the rest of a row ends, reading all of it ends likewise, with the values that are read in front.
+-- Reading a whole row ends as reading its remaining parts does. If that succeeds, the values read before come first.
 pub record GoingRow {S : Type 0} (left : S → Left) (able : S → ℕ → Type 0) (may_leave : S → S → Type 0) (start : S) (all : Trees
     → Type 0) (items : List Value) (now : S) (rest : Trees → Type 0) : Type 0 where
   pub ends : (r : Result (List Value) Error) (new : S) → ReadsFrom SpellsAll rest (EachIs IsTree) memory left able may_leave now r new

@@ -7,27 +7,27 @@ use Rattle.postcard_shape.specs.Lists.{AreRead}
 use Rattle.postcard_schema.specs.declared.schema.Schema.{Schema}
 use Rattle.postcard_schema.specs.Meaning.{MessageType, type_of, types_of, reads, reads_all}
 
--- The bytes spell a value of the type.
+-- The bytes encode a value of the type.
 abbrev pub FrontSpells : MessageType → List ℕ → Type 0
 FrontSpells t bytes = (tree : Tree) × reads t tree × Spells tree bytes
 
--- The bytes spell n values of the type, one after another.
+-- The bytes encode n values of the type, one after another.
 abbrev pub SpellsEach : MessageType → ℕ → List ℕ → Type 0
 SpellsEach t n bytes = (ts : Trees) × AreRead n (reads t) ts × SpellsAll ts bytes
 
--- The bytes spell a value of each schema, in order.
+-- The bytes encode a value of each schema, in order.
 abbrev pub SpellsParts : List Schema → List ℕ → Type 0
 SpellsParts ss bytes = (ts : Trees) × reads_all (types_of ss) ts × SpellsAll ts bytes
 
--- No front of the bytes spells a value of the type.
+-- No prefix of the bytes encodes a value of the type.
 abbrev pub HasNone : MessageType → List ℕ → Type 0
 HasNone t bytes = (front rest : List ℕ) → bytes ≡ front ++ rest → FrontSpells t front → ⊥
 
--- No front of the bytes spells a value of the schema.
+-- No prefix of the bytes encodes a value of the schema.
 abbrev pub HasNoFront : Schema → List ℕ → Type 0
 HasNoFront schema = HasNone (type_of schema)
 
--- No front of the bytes spells n values of the type, one after another.
+-- No prefix of the bytes encodes n values of the type, one after another.
 abbrev pub HasNoRow : MessageType → ℕ → List ℕ → Type 0
 HasNoRow t n bytes = (front rest : List ℕ) → bytes ≡ front ++ rest → SpellsEach t n front → ⊥
 
@@ -35,10 +35,10 @@ HasNoRow t n bytes = (front rest : List ℕ) → bytes ≡ front ++ rest → Spe
 abbrev pub HasNoFlag : List ℕ → Type 0
 HasNoFlag bytes = (rest : List ℕ) → (bytes ≡ 0 ∷ rest → ⊥) × (bytes ≡ 1 ∷ rest → ⊥)
 
--- No front of the bytes spells a count.
+-- No prefix of the bytes encodes a count.
 abbrev pub HasNoCount : List ℕ → Type 0
 HasNoCount bytes = (n : ℕ) (front rest : List ℕ) → n < 2 ^ 64 → SpellsNum 64 n front → bytes ≡ front ++ rest → ⊥
 
--- No front of the bytes spells the index of one of `count` variants.
+-- No prefix of the bytes encodes the index of one of `count` variants.
 abbrev pub HasNoIndex : ℕ → List ℕ → Type 0
 HasNoIndex count bytes = (i : ℕ) (front rest : List ℕ) → i < count → i < 2 ^ 32 → SpellsNum 32 i front → bytes ≡ front ++ rest → ⊥

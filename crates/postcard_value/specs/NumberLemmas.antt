@@ -65,6 +65,7 @@ pub value_of_bytes : (order : ByteOrder) (k n : ℕ) → n < 256 ^ k
     → (order_of order).value (bytes_of (trees (map Byte ((order_of order).spell k n)))) ≡ n
 value_of_bytes order k n below = let o = order_of order in ap o.value (bytes_of_trees (o.spell k n)) ∙ o.worth k n below
 
+-- A signed number of any type fits 128 bits.
 pub fits_128 : (i : Integer) (z : ℤ) (n : ℕ) → IsBitsOf i z n → FitsSigned w128 z
 fits_128 i (pos m) n (low, is) = record { sfits = omega (arith, ints, halves i, at_most_128 i, low.0, low.1) }
 fits_128 i (negsuc m) n (low, is) = record { sfits = omega (arith, ints, halves i, at_most_128 i, low.0, low.1) }

@@ -18,7 +18,8 @@ signed_of k n = if nat_lt (2 * n) (256 ^ k) then pos n else negsuc (256 ^ k - su
 abbrev pub IsBitsOf : Integer → ℤ → ℕ → Type 0
 IsBitsOf integer z n = InRange (8 * size_of integer) z × (n ≡ twos_complement (size_of integer) z)
 
--- The tree of a number of k bytes with the bits n, below 256 ^ k: a byte, or a wider number with or without a sign.
+-- The tree of a number of k bytes with the bits n, where n is below 256 ^ k. It is a byte if k is 1, and else a varint of a number with or
+-- without a sign.
 abbrev pub number_tree : Bool → ℕ → ℕ → Tree
 number_tree signed k n = if k == 1 then Byte n else if signed then Int (8 * k) (signed_of k n) else Num (8 * k) n
 

@@ -18,7 +18,7 @@ use Rattle.postcard_value.specs.Fronts.{FrontSpells, HasNoCount, HasNoFront, Has
 abbrev pub IsCounted : Schema → Type 0
 IsCounted s = ((b : Box Schema Global) × (s ≡ schemas.Seq b)) ⊎ ((k : Box Schema Global) × (v : Box Schema Global) × (s ≡ schemas.Map k v))
 
--- Reading a value of the schema from a front of the bytes stops at the first node of the value.
+-- Reading a value of the schema from a prefix of the bytes stops at the first node of the value.
 pub data StopsHere : Schema → List ℕ → Type 0 where
   -- A value without parts, the first byte of an option, the count of a list or a map, and the index of a variant.
   at_leaf : (s : Schema) (bytes : List ℕ) (l : Leaf) → s ≡ schemas.Leaf l → HasNoFront s bytes → StopsHere s bytes
@@ -59,14 +59,14 @@ pub data Enters : Schema → List ℕ → List Step → Schema → Type 0 where
       → SpellsNum 32 i index
       → Enters s index (Name name ∷ []) variant.content
 
--- Reading a value of the schema from a front of the bytes stops at the part with this path, which begins at this offset. All before it is
+-- Reading a value of the schema from a prefix of the bytes stops at the part with this path, which begins at this offset. All before it is
 -- read, and it can't be.
 pub data StopsAt : Schema → List ℕ → List Step → ℕ → Type 0 where
   here : (s : Schema) (bytes : List ℕ) → StopsHere s bytes → StopsAt s bytes [] 0
   inside : (s x : Schema) (bytes front rest : List ℕ) (steps path : List Step) (offset : ℕ) → Enters s front steps x → bytes ≡ front ++ rest
       → StopsAt x rest path offset → StopsAt s bytes (steps ++ path) (length front + offset)
 
--- Reading a value of the schema from the bytes stops at the part with this path, which is empty for the whole value, and this offset.
+-- Reading a value of the schema from the bytes stops at the part with this path and this offset. The path is empty for the whole value.
 abbrev pub IsRefusedAt : Schema → List ℕ → List Step → ℕ → Type 0
 IsRefusedAt = StopsAt
 
@@ -74,15 +74,15 @@ IsRefusedAt = StopsAt
 abbrev pub IsPathOf : Schema → List ℕ → List ℕ → Type 0
 IsPathOf schema bytes text = (path : List Step) × (offset : ℕ) × IsRefusedAt schema bytes path offset × (text ≡ path_text path)
 
--- The steps from `old` to `new` lead from a value of the schema at the front of the bytes to a part of it. The part is of the schema x, and
--- its bytes are at the front of `rest`. If the value can't be read, the part can't.
+-- The steps from `old` to `new` lead from a value of the schema at the start of the bytes to a part of it. The part is of the schema x, and
+-- its bytes are at the start of `rest`. If the value can't be read, the part can't.
 abbrev pub Entered : Schema → List ℕ → List Step → List Step → Schema → List ℕ → Type 0
 Entered s bytes old new x rest =
     (front : List ℕ) × (steps : List Step) × Enters s front steps x × (new ≡ old ++ steps) × (bytes ≡ front ++ rest) × (HasNoFront s bytes
     → HasNoFront x rest)
 
--- What a call found that went from a value of the schema to the part in which reading it stops: that part, which is less deep, and the
--- bytes from it on. If reading stops at the first node, it found nothing.
+-- What a call of `enter` found: the part of the value in which reading stops, and the bytes from that part on. The part is less deep than
+-- the value. If reading stops at the first node, it found nothing.
 abbrev pub Finds : Schema → List ℕ → List Step → List Step → Option (Bor Schema × Bor (List ℕ)) → Type 0
 Finds s bytes old new found =
     MatchOption found ((HasNoFront s bytes → StopsHere s bytes) × (new ≡ old))

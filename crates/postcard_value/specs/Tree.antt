@@ -10,8 +10,8 @@ use Rattle.postcard_value.specs.Numbers.{fixed_tree, integer_tree}
 use Rattle.postcard_value.specs.declared.value.Value.{Value, fold-Value}
 use Rattle.postcard_value.specs.declared.value.Value.TheOpen.{Value-F}
 
--- One step of the fold `tree`: the tree of a value whose parts are already trees. A float is the array of its bytes, the lowest first
--- (wire format 1.0, "f32" and "f64"), and a byte string is a list of bytes.
+-- One step of the fold `tree`: the tree of a value whose parts are already trees. A float is the array of its bytes, the lowest first (wire
+-- format 1.0, "f32" and "f64"). A byte string is a list of bytes.
 abbrev pub tree_step : Value-F Tree → Tree
 tree_step (Value-F.Bool x) = Boolean x
 tree_step (Value-F.Integer integer bits) = integer_tree integer bits

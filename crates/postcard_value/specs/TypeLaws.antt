@@ -25,6 +25,7 @@ by_integer P byte num int I32 = int 32 (inr (inl refl))
 by_integer P byte num int I64 = int 64 (inr (inr (inl refl)))
 by_integer P byte num int I128 = int 128 (inr (inr (inr refl)))
 
+-- The encodings of a type without parts are prefix-free.
 leaf_delimited : (l : Leaf) → IsDelimited (leaf_reads l)
 leaf_delimited leaves.Bool = delimited.boolean_delimited
 leaf_delimited (leaves.Integer i) = by_integer IsDelimited delimited.byte_delimited (λ w wide. delimited.num_delimited w)
@@ -53,6 +54,7 @@ mutual
   variants_delimited (then_type t ts) zero = type_delimited t
   variants_delimited (then_type t ts) (suc i) = variants_delimited ts i
 
+-- The trees of a type without parts are well formed.
 leaf_well_formed : (l : Leaf) → ReadsWellFormed (leaf_reads l)
 leaf_well_formed leaves.Bool = formed.boolean_well_formed
 leaf_well_formed (leaves.Integer i) = by_integer ReadsWellFormed formed.byte_well_formed formed.num_well_formed formed.int_well_formed i

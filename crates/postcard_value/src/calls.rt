@@ -14,11 +14,11 @@ use postcard_ser::Serializer;
 use postcard_ser_flavors::Flavor;
 use std::alloc::Global;
 
-/// Decodes a value of the schema from the front of some bytes, and returns it with the bytes after
-/// that front.
+/// Decodes a value of the schema from the start of some bytes, and returns it with the remaining
+/// bytes.
 ///
-/// It succeeds if and only if a front of the bytes spells a tree of the schema, padded numbers
-/// included, unless an allocation fails. There is at most one such front.
+/// It succeeds if and only if a prefix of the bytes encodes a tree of the schema and no allocation
+/// fails. Padded numbers are accepted. There is at most one such prefix.
 ///
 /// # Errors
 ///
@@ -46,13 +46,13 @@ pub fn take_from_bytes<'a>(
     Ok((value, rest))
 }
 
-/// Encodes a value into a flavor, ends the flavor, and returns its output, of the canonical
-/// encoding of the value's tree.
+/// Encodes a value into a flavor, ends the flavor, and returns its output. The encoding is the
+/// canonical one of the value's tree.
 ///
 /// # Errors
 ///
-/// Fails with `SerializeBufferFull`, and drops the flavor, if that refuses bytes or can't end;
-/// never if it has room for the encoding.
+/// Fails with `SerializeBufferFull`, and drops the flavor, if the flavor refuses bytes or can't
+/// end. It never fails if the flavor has room for the encoding.
 pub fn to_flavor<S: Flavor<Output = O> + Drop, O>(value: &Value, storage: S) -> Result<O>
     ensures gives { IfOk result (Finished S.Flavor storage (canonical (tree value.now))) }
     ensures has_room { S.room storage (canonical (tree value.now)) → IsOk result }

@@ -1,17 +1,18 @@
-//! Laws of every type that is known only at run time, as contracts of functions that do nothing.
+//! Laws of every type that is known only at run time. Each law is the contract of a function that
+//! does nothing.
 
 ghost use Rattle.std.specs.Prelude.{◌≡◌, ◌<◌, ℕ, List, length, true};
 ghost use Rattle.postcard_value.specs.{IsDelimited, MessageType, ReadsWellFormed, Spells, has_bytes};
 ghost use Rattle.postcard_value.specs.{reads};
 ghost use Rattle.postcard_wire.specs.Tree.{Tree};
 
-/// The encodings of each type are prefix-free: at most one front of any bytes spells a tree of the
-/// type, and it spells only one.
+/// The encodings of each type are prefix-free: at most one prefix of any bytes encodes a tree of
+/// the type, and it encodes only one.
 pub fn prefix_free()
     ensures { (t : MessageType) → IsDelimited (reads t) }
 {}
 
-/// Every tree of a type is well formed: each number is in its range, and each text is UTF-8.
+/// Every tree of a type is well formed: each number is in its range, and each string is UTF-8.
 pub fn well_formed()
     ensures { (t : MessageType) → ReadsWellFormed (reads t) }
 {}

@@ -13,8 +13,9 @@ use postcard_schema::{ByteOrder, Float, Integer};
 use postcard_ser::Serializer;
 use std::alloc::Global;
 
-/// Reads a number, and returns its bits: a byte if the type has 8 bits, and else a varint, of a
-/// signed number's zigzag encoding. Fails as the `deserialize_*` call of the type does.
+/// Reads a number, and returns its bits. A number of 8 bits is a byte, and a wider one a varint,
+/// which holds the zigzag encoding if the type is signed. Fails as the `deserialize_*` call of the
+/// type does.
 pub fn read_integer<'de, F: postcard_de::Flavor>(
     integer: Integer,
     d: &mut Deserializer<'de, F>,
@@ -57,7 +58,7 @@ pub fn write_integer<F: postcard_ser::Flavor>(
 }
 
 /// Reads the bits of a number from its bytes. Fails with `DeserializeUnexpectedEnd` if the source
-/// can't give as many bytes.
+/// has fewer bytes.
 pub fn read_bits<'de, F: postcard_de::Flavor>(
     alloc: Global,
     order: ByteOrder,
@@ -109,8 +110,8 @@ pub fn write_bits<F: postcard_ser::Flavor>(
     write_low_bits(order, integer, low_bits(integer, bits), serializer)
 }
 
-/// Writes the bytes of the number with these bits, of which its type has as many. Fails as
-/// [`write_bits`] does.
+/// Writes the bytes of the number with these bits, none of which is above its type's width. Fails
+/// as [`write_bits`] does.
 fn write_low_bits<F: postcard_ser::Flavor>(
     order: ByteOrder,
     integer: Integer,
@@ -212,7 +213,8 @@ pub fn signed_of(integer: Integer, bits: u128) -> Option<i128>
     }
 }
 
-/// Returns the signed number with these bits in two's complement, of which its type has as many.
+/// Returns the signed number with these bits in two's complement, none of which is above its type's
+/// width.
 fn signed(integer: Integer, bits: u128) -> i128
     requires { bits < 256 ^ size_of integer }
     ensures { result ≡ number_of (size_of integer) bits }
@@ -225,7 +227,7 @@ fn signed(integer: Integer, bits: u128) -> i128
     -1 - (below as i128)
 }
 
-/// Returns whether a number of the type has as many bits.
+/// Returns whether the bits are those of a number of the type: none is above its width.
 pub fn are_bits(integer: Integer, bits: u128) -> bool
     ensures within { result ≡ true → bits < 256 ^ size_of integer }
     ensures beyond { result ≡ false → bits < 256 ^ size_of integer → ⊥ }
@@ -233,7 +235,7 @@ pub fn are_bits(integer: Integer, bits: u128) -> bool
     bits / 2 < half_of(integer)
 }
 
-/// Returns the bits that a number of the type has, without those above them.
+/// Returns the bits within the width of the type, without those above them.
 pub fn low_bits(integer: Integer, bits: u128) -> u128
     ensures low { result ≡ bits % 256 ^ size_of integer }
     ensures below { result < 256 ^ size_of integer }

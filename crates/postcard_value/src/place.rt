@@ -11,8 +11,8 @@ use postcard_schema::{Field, Path, Schema, Step, Variant};
 use postcard_wire::{Error, Result};
 use std::alloc::Global;
 
-/// A part of a message that can't be read. It is a value without parts, the first byte of an
-/// option, the count of a list or a map, or the index of an enum's variant.
+/// A part of a message that can't be read. It is a value without parts, an option's first byte, the
+/// count of a list or a map, or a variant's index.
 #[derive(Debug, Drop)]
 pub struct RefusedPart<'a> {
     /// The offset in bytes of its first byte.
@@ -49,9 +49,9 @@ pub fn refused_at<'a>(alloc: Global, schema: &'a Schema, bytes: &[u8]) -> Result
     })
 }
 
-/// Returns the part in which reading a value of the schema stops, and the bytes from it on, or
-/// `None` if it stops at the first node of the value. Appends the steps to that part. The functions
-/// `enter_..` below do so too.
+/// Returns the part in which reading a value of the schema stops, and the bytes from that part on.
+/// Returns `None` if it stops at the first node of the value. Appends the steps to that part to
+/// `path`. The functions `enter_..` below do the same for one kind of type.
 fn enter<'a, 'b>(
     alloc: Global,
     schema: &'a Schema,
@@ -105,7 +105,7 @@ fn enter_list<'a, 'b>(
     }
 }
 
-/// Does so for `count` values in a row.
+/// Does what [`enter`] does, for `count` values in a row.
 fn enter_elements<'a, 'b>(
     alloc: Global,
     element: &'a Schema,
@@ -149,7 +149,7 @@ fn enter_map<'a, 'b>(
     }
 }
 
-/// Does so for `count` entries in a row.
+/// Does what [`enter`] does, for `count` entries of a map in a row.
 fn enter_entries<'a, 'b>(
     alloc: Global,
     key: &'a Schema,

@@ -13,15 +13,15 @@ use postcard_de::{Deserializer, Error, Flavor, Result};
 use postcard_schema::{Field, Leaf, Schema, Variant};
 use std::alloc::Global;
 
-/// Reads a value of the schema from the front of the bytes that are left in the source, as
-/// `Deserialize::deserialize` does for a type of the program.
+/// Reads a value of the schema from the source, as `Deserialize::deserialize` does for a type of
+/// the program.
 ///
 /// # Errors
 ///
-/// Fails with the error of the first part that can't be read: an error of the `deserialize_*` calls
-/// of [`Deserializer`], or `SerdeDeCustom` if an index has no variant. Fails with `OutOfMemory` if
-/// an allocation fails. A count or a length in the message alone never decides how much memory is
-/// requested.
+/// Fails with the error of the first part that can't be read. That is an error of a `deserialize_*`
+/// call of [`Deserializer`], or `SerdeDeCustom` if an index has no variant. Fails with
+/// `OutOfMemory` if an allocation fails. A count or a length in the message alone never decides how
+/// much memory is requested.
 #[cycle(read)]
 pub fn read_value<'de, F: Flavor>(
     alloc: Global,

@@ -5,7 +5,7 @@ use postcard_schema::{ByteOrder, Float, Integer};
 /// A value of some `Schema`, which has the names of fields and variants.
 ///
 /// A number is given by its bits: the number itself, or the two's complement of a negative one.
-/// Only as many bits as its type has count. Those above them aren't written.
+/// Bits above the width of its type are ignored, and aren't written.
 #[derive(Debug, Drop)]
 pub enum Value {
     Bool(bool),

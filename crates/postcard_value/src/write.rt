@@ -14,8 +14,8 @@ use postcard_wire::Result;
 ///
 /// # Errors
 ///
-/// Fails with `SerializeBufferFull` if the flavor refuses bytes. What it took before the error
-/// stays in it.
+/// Fails with `SerializeBufferFull` if the flavor refuses bytes. The bytes that the flavor took
+/// before the error stay in it.
 #[cycle(write)]
 pub fn write_value<F: Flavor>(value: &Value, serializer: &mut Serializer<F>) -> Result<()>
     ensures { Wrote F.Flavor serializer.old.output (canonical (tree value.now)) never ⊥ result

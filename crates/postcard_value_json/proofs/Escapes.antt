@@ -198,7 +198,7 @@ unit_kept c bs small =
     ap (λ s. 92 ∷ 117 ∷ 48 ∷ 48 ∷ s)
     (one_byte (digit_char (c / 16)) (digit_char (c % 16) ∷ bs) (λ e. omega arith) (λ e. omega arith) ∙ ap (λ s. digit_char (c / 16) ∷ s) (one_byte (digit_char (c % 16)) bs (λ e. omega arith) (λ e. omega arith)))
 
--- What a byte 194 that wasn't printed yet puts before the rest.
+-- What is printed before the remaining bytes, if a byte 194 was read and not printed yet.
 abbrev pub before : Bool → List ℕ
 before f = cond f (194 ∷ []) []
 

@@ -11,7 +11,7 @@ unit_escape c = 92 ∷ 117 ∷ 48 ∷ 48 ∷ digit_char (c / 16) ∷ digit_char 
 abbrev pub is_high_control : ℕ → Bool
 is_high_control c = nat_le 127 c && nat_lt c 160
 
--- What stands for a character.
+-- The escape of a character, or the character itself.
 abbrev pub escaped_char : ℕ → List ℕ
 escaped_char c = cond (is_high_control c) (unit_escape c) (encode_utf8 c)
 

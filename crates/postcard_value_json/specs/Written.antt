@@ -26,14 +26,16 @@ use Rattle.serde_json.specs.View.{items_of}
 abbrev pub Writer : Type 0
 Writer = Tree → Option Data
 
--- The JSON of a number: a number if its magnitude is below 2^53, so that each reader of JSON keeps it, and else a string of its
+-- The JSON of a number: a number if its magnitude is below 2^53, so that each reader of JSON keeps it. Otherwise it is a string of its
 -- decimal digits.
 abbrev pub unsigned_json : ℕ → Data
 unsigned_json n = if nat_lt n 9007199254740992 then number (unsigned n) else string (decimal n)
 
+-- Whether the magnitude of a number is below 2^53.
 abbrev pub is_small : ℤ → Bool
 is_small z = int_lt (negsuc 9007199254740991) z && int_lt z (pos 9007199254740992)
 
+-- The JSON of a signed number: a number if it is small, and else a string.
 abbrev pub signed_json : ℤ → Data
 signed_json z = if is_small z then number (of_integer z) else string (signed_decimal z)
 
@@ -53,6 +55,7 @@ varint_json false width (Num w n) = if w == width then Some (unsigned_json n) el
 varint_json true width (Int w z) = if w == width then Some (signed_json z) else None
 varint_json signed width t = None
 
+-- The JSON of a tree of a type of integers.
 abbrev pub integer_json : Integer → Writer
 integer_json U8 = byte_json false
 integer_json I8 = byte_json true
@@ -63,10 +66,12 @@ abbrev pub infinity : Float → ℕ
 infinity F32 = 0x7f80_0000
 infinity F64 = 0x7ff0_0000_0000_0000
 
+-- The bits of negative infinity.
 abbrev pub negative_infinity : Float → ℕ
 negative_infinity F32 = 0xff80_0000
 negative_infinity F64 = 0xfff0_0000_0000_0000
 
+-- The bits of `f32::NAN` and `f64::NAN`.
 abbrev pub usual_nan : Float → ℕ
 usual_nan F32 = 0x7fc0_0000
 usual_nan F64 = 0x7ff8_0000_0000_0000
@@ -125,10 +130,12 @@ row ds = values.array (items_of ds)
 abbrev pub items_json : Writer → Trees → Option Data
 items_json p ts = option_map row (all_json p ts)
 
+-- The JSON of a list: the array of its elements.
 abbrev pub list_json : Writer → Writer
 list_json p (nodes.Seq ts) = items_json p ts
 list_json p t = None
 
+-- The JSON of an array: the array of its elements.
 abbrev pub array_json : Writer → Writer
 array_json p (nodes.Group ts) = items_json p ts
 array_json p t = None
@@ -141,6 +148,7 @@ parts_row (d ∷ ds) = row (d ∷ ds)
 abbrev pub parts_json : List Writer → Trees → Option Data
 parts_json ps ts = option_map parts_row (each_json ps ts)
 
+-- The JSON of a tuple: the array of its parts, and `null` for the unit.
 abbrev pub tuple_json : List Writer → Writer
 tuple_json ps (nodes.Group ts) = parts_json ps ts
 tuple_json ps t = None
@@ -153,12 +161,12 @@ entry_json key value = tuple_json (key ∷ value ∷ [])
 abbrev pub FieldWriter : Type 0
 FieldWriter = List ℕ × Writer
 
--- The members, and one more, unless there is one with this name.
+-- The members and one more. It is `None` if there already is one with this name.
 abbrev pub add_member : List ℕ → Data → Members → Option Members
 add_member n d ms = if is_some (get_member n ms) then None else Some (put n d ms)
 
--- Some members, and after them the JSON of trees, each as a field; `None` if there are more fields than trees, or fewer, or two
--- fields with one name.
+-- Some members, and after them the JSON of trees, each as a field. It is `None` if the numbers of fields and trees differ, or two fields
+-- have the same name.
 abbrev pub members_json : List FieldWriter → Trees → Members → Option Members
 members_json [] NoTrees ms = Some ms
 members_json (f ∷ fs) (Then t ts) ms = option_and_then (λ d. option_and_then (members_json fs ts) (add_member f.0 d ms)) (f.1 t)
@@ -168,14 +176,16 @@ members_json fs ts ms = None
 abbrev pub fields_json : List FieldWriter → Trees → Option Data
 fields_json fs ts = option_map object (members_json fs ts no_members)
 
+-- The JSON of a struct: the object of its fields.
 abbrev pub struct_json : List FieldWriter → Writer
 struct_json fs (nodes.Group ts) = fields_json fs ts
 struct_json fs t = None
 
--- The JSON of a variant: its name as a string if its content is the unit, and else an object with the name and the content.
+-- The JSON of a variant: its name as a string if its content is the unit. Otherwise it is an object with the name and the content.
 abbrev pub variant_json : List ℕ → Layout → Writer → Writer
 variant_json n x p t = if is_unit x then Some (string n) else option_map (alone n) (p t)
 
+-- The JSON of an enum's value, by the variant at its index.
 abbrev pub choice_json : (ℕ → Writer) → Writer
 choice_json p (nodes.Variant i t) = p i t
 choice_json p t = None

@@ -51,7 +51,7 @@ pub(crate) fn write_leaf(
     }
 }
 
-/// Returns the JSON of the number with these bits, of which those above its width are left out.
+/// Returns the JSON of the number with these bits. Bits above the type's width are ignored.
 fn write_bits(alloc: Global, integer: Integer, bits: u128) -> Result<Json, AllocError>
     ensures { IfOk result (λ j. view j
         ≡ bits_json (is_signed integer) (size_of integer) (bits % 256 ^ size_of integer)) }
@@ -83,7 +83,7 @@ fn write_signed(alloc: Global, n: i128) -> Result<Json, AllocError>
     Ok(Json::String(digits))
 }
 
-/// Returns the JSON of the float with these bits, of which those above its width are left out.
+/// Returns the JSON of the float with these bits. Bits above the type's width are ignored.
 fn write_float(alloc: Global, float: Float, bits: u64) -> Result<Json, AllocError>
     ensures { IfOk result (λ j. view j ≡ float_json float (bits % 256 ^ float_size float)) }
 {

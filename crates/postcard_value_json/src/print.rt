@@ -10,8 +10,8 @@ ghost use Rattle.postcard_value_json.specs.{view};
 use serde_json::Value as Json;
 use std::alloc::{AllocError, Global};
 
-/// Returns the JSON as text, without blanks. Each control character is an escape, as `\u001b` or
-/// `\u009b`, so that none gets to a terminal.
+/// Returns the JSON as text, without blanks. Each control character is escaped, as `\u001b` or
+/// `\u009b`, so that none reaches a terminal.
 ///
 /// # Errors
 ///

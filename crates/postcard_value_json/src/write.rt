@@ -13,8 +13,8 @@ use postcard_value_text::is_unit;
 use serde_json::{Map, Value as Json, put};
 use std::alloc::{AllocError, Global};
 
-/// Returns the JSON of the value, or `None` if the value has another form than the schema, or two
-/// fields of a struct have the same name. Only the count of an array isn't checked.
+/// Returns the JSON of the value. Returns `None` if the value has another form than the schema, or
+/// if two fields of a struct have the same name. The count of an array is not checked.
 ///
 /// # Errors
 ///

@@ -1,4 +1,4 @@
--- Lemmas on what is read: options, lists, arrays and maps, as the only tree that the JSON spells.
+-- Lemmas on what is read: options, lists, arrays and maps, as the only tree that the JSON denotes.
 use Rattle.std.proofs.Common.{◌≡◌, ℕ, suc, ◌<◌, ◌^◌, Bool, true, false, List, [], ◌∷◌, ◌++◌, map, length, get_or, zero, codes, refl, sym, ap, ap₂, subst, ◌∙◌, arith, ◌⊎◌, inl, inr}
 use Rattle.std.specs.Prelude.{Result, Ok, Err, IsErrAnd, MatchResult}
 use Rattle.postcard_wire.specs.Tree.{Tree, Trees, NoTrees, Then, trees, count}
@@ -39,7 +39,7 @@ pub boxed : (D : Type 0) (R : Reading) (t : Tree) (d : Data) (r : Result Value J
 boxed D R t d (Ok v) is h = subst (λ z. IsOnly D R z d) (sym is) h
 boxed D R t d (Err e) is h = λ names u r. is
 
--- The answer of a part, with another condition, is that of the whole if the trees and the JSON of the part are those of the whole.
+-- Let a part have the trees and the JSON of the whole. Then the answer of the part, with another condition, is that of the whole.
 pub answer_by : {T J K : Type 0} (D E : Type 0) (see : Value → T) (R : T → J → Type 0) (S : T → K → Type 0) (d : J) (e : K) (r : Result Value JsonError) → (E → D) → ((t : T) → R t d → S t e) → ((t : T) → S t e → R t d)
     → Answers D see R d r → Answers E see S e r
 answer_by D E see R S d e (Ok v) names to from (h, one) = (to (see v) h, λ f u s. one (names f) u (from u s))

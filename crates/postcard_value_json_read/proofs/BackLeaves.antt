@@ -40,6 +40,7 @@ use Rattle.postcard_value_json_read.proofs.Groups.{some_is}
 
 -- ---- numbers
 
+-- If two numbers differ, the test `==` of them is false.
 unequal : (m n : ℕ) → m ≢ n → (m == n) ≡ false
 unequal m n other = by (m == n) refl
   where
@@ -47,6 +48,7 @@ unequal m n other = by (m == n) refl
     by true e = absurd (other ((Decides-eqb m n).0 e))
     by false e = e
 
+-- Decimal digits begin with neither `+` nor `-`, so stripping a sign changes nothing.
 not_sign : (bs : List ℕ) → IsNumeral 10 bs → (get_or bs 0 0 ≢ 43) × (get_or bs 0 0 ≢ 45)
 not_sign [] h = absurd (omega (arith, h.0))
 not_sign (c ∷ cs) h = (
@@ -54,12 +56,14 @@ not_sign (c ∷ cs) h = (
   λ is. absurd (omega (arith, subst (λ d. digit_value d < 10) is h.1.0)),
 )
 
+-- The decimal digits of a number are read as the number.
 plain_digits : (n : ℕ) → n < 10 ^ 64 → IsUnsigned n (decimal n)
 plain_digits n low =
     let h = decimal_is_IsNumeral_wide n low in
     let plain : without_leading_plus (decimal n) ≡ decimal n = without_leading_plus_none (decimal n) (not_sign (decimal n) h.0).0 in
     (subst (IsNumeral 10) (sym plain) h.0, sym (ap (digits_value 10) plain ∙ h.1))
 
+-- The JSON that was written of an unsigned number is read as that number.
 unsigned_back : (n : ℕ) → n < 10 ^ 64 → IsUnsignedJson n (unsigned_json n)
 unsigned_back n low = by (nat_lt n 9007199254740992)
   where

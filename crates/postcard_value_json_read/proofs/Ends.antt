@@ -15,7 +15,7 @@ whole_end a b same = ([], sym same)
 pub end_of_end : (a b c : List ℕ) → IsEndOf a b → IsEndOf b c → IsEndOf a c
 end_of_end a b c (x, e) (y, f) = (x ++ y, e ∙ ap (λ z. x ++ z) f ∙ sym (append_assoc x y c))
 
--- One byte off the front.
+-- The text without its first byte.
 pub byte_off : (text left rest : List ℕ) (b : ℕ) → IsEndOf text left → left ≡ b ∷ rest → IsEndOf text rest
 byte_off text left rest b h e = end_of_end text left rest h (b ∷ [], e)
 
@@ -27,11 +27,11 @@ unblank_end (b ∷ s) = by (is_ascii_whitespace b) (unblank_end s)
     by true (x, e) = (b ∷ x, ap (λ z. b ∷ z) e)
     by false h = ([], refl)
 
--- Blanks off the front.
+-- The text without the blanks at its start.
 pub blanks_off : (s r : List ℕ) → IsTrimAsciiStart s r → IsEndOf s r
 blanks_off s r trim = subst (IsEndOf s) (sym (trim_is s r trim)) (unblank_end s)
 
--- A sign off the front, or nothing.
+-- The text after a sign, or the whole text if no sign is taken.
 pub sign_off : (taken : Bool) (sign : ℕ) (old new : List ℕ) → (taken ≡ true → TakesPhrase (IsSign sign) old new) → (taken ≡ false → new ≡ old) → IsEndOf old new
 sign_off true sign old new take left = let k = take refl in (k.0, k.2)
 sign_off false sign old new take left = whole_end old new (left refl)

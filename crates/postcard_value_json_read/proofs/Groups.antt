@@ -1,4 +1,4 @@
--- Lemmas on tuples, structs and entries of maps that are read, as the only trees that the JSON spells.
+-- Lemmas on tuples, structs and entries of maps that are read, as the only trees that the JSON denotes.
 use Rattle.std.proofs.Common.{◌≡◌, ℕ, zero, suc, ◌<◌, List, [], ◌∷◌, ◌++◌, map, length, get_or, Some, string_bytes, refl, sym, ap, ap₂, subst, ◌∙◌, arith}
 use Rattle.postcard_wire.specs.Tree.{Tree, Trees, NoTrees, Then, trees}
 use Rattle.postcard_wire.specs.Tree as nodes
@@ -82,7 +82,7 @@ distinct_at [] i s names low here = absurd (omega (arith, low))
 distinct_at (u ∷ us) zero s names low here = subst HasDistinctNames (ap layout_of (sym here)) names.0
 distinct_at (u ∷ us) (suc i) s names low here = distinct_at us i s names.1 (omega (arith, low)) here
 
--- There are as many items as parts.
+-- The numbers of items and parts are equal.
 parts_count : (ss : List Schema) (us : Trees) (ds : Items) → AreParts (layouts_of ss) us ds → items_len ds ≡ length ss
 parts_count [] NoTrees no_items h = refl
 parts_count [] NoTrees (item d ds) h = absurd h

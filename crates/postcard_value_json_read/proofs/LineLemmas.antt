@@ -1,4 +1,4 @@
--- One line off the front.
+-- Lemmas for dropping lines of a text: a byte of the first line, or the whole line.
 use Rattle.std.proofs.Common.{◌≡◌, ℕ, suc, ◌+◌, ◌-◌, ◌<◌, List, [], ◌∷◌, ◌++◌, ap, ◌∙◌, subst, append_assoc, arith}
 use Rattle.postcard_value_json_read.specs.Lines.{AreLines, IsLine}
 

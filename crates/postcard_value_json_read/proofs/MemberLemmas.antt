@@ -72,7 +72,7 @@ member_parts N text t h =
 no_phrase : (text t : List ℕ) → TakesPhrase (λ phrase. phrase ≡ []) text t → text ≡ t
 no_phrase text t (front, is, whole) = whole ∙ ap (λ z. z ++ t) is
 
--- The first member of those ahead: its name and the `:` after it.
+-- In every member that is still ahead, a `:` follows the name. So after a key was read, the program finds a `:`.
 pub colon_ahead : (name text key a b found rest : List ℕ) (colon : Bool) → HasFound name text found rest → Key text key a b colon → colon ≡ true
 colon_ahead name text key a b found rest colon (inl (zero, m, left, after, before, behind, at)) k =
     let (t, none, more) = takes_split (AreMembers zero) (Then (Led (IsNameText name)) (IsSign 58)) text left before in
@@ -111,7 +111,7 @@ others_next name s after w x (suc m) h same comma =
     let next : x ≡ u = one_rest 44 s x u refl here sign in
     subst (AreAhead name) (sym next) (m, after, takes_two (IsMemberText (IsOtherName name)) (Then (AreOthers name m) (IsSign 125)) u g after member (takes_two (AreOthers name m) (IsSign 125) g t after rest close))
 
--- What a turn finds: the value, if the key stands for the name, and else what was found before.
+-- The place found after a turn: the value of this member if its key is the name, and else the place found before.
 pub record Finds (name key v found next : List ℕ) (is : Bool) : Type 0 where
   pub named : is ≡ true → read key ≡ Some (string name)
   pub other : is ≡ false → IsUtf8 key → read key ≡ Some (string name) → ⊥

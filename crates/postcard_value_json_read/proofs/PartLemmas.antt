@@ -1,4 +1,4 @@
--- One item or member off the front of a text.
+-- Lemmas for finding a part of a JSON text: an array without its first item, an object without its first member.
 use Rattle.std.proofs.Common.{◌≡◌, ℕ, zero, suc, ◌<◌, map, length, drop, get_or, arith, Bool, true, false, List, [], ◌∷◌, ◌++◌, refl, sym, ap, subst, ◌∙◌, inl, inr, true≢false}
 use Rattle.std.specs.Prelude.{◌==◌, ◌||◌}
 use Rattle.std.proofs.lemmas.Bool.{eqb-true, or_cases}
@@ -75,11 +75,11 @@ sign_taken false sign old new rest black take none h = absurd (none refl black r
 
 -- ---- items
 
--- What a call leaves that skips the value at the front.
+-- What a call that skips the value at the start of a text leaves: the text after that value.
 abbrev pub Skips : List ℕ → List ℕ → Type 0
 Skips text after = (value rest : List ℕ) → IsValue value → EndsScalar rest → text ≡ value ++ rest → after ≡ rest
 
--- One item less.
+-- Once an item and the `,` after it are skipped, one item less is before the wanted one.
 pub item_less : (n : ℕ) (left items after next : List ℕ) (taken : Bool) → TakesPhrase (AreValues (suc n)) left items → Skips (unblank left) after
     → (taken ≡ true → TakesPhrase (IsSign 44) after next) → (taken ≡ false → is_ascii_whitespace 44 ≡ false → (rest : List ℕ) → TakesPhrase (IsSign 44) after rest → ⊥)
     → TakesPhrase (AreValues n) next items

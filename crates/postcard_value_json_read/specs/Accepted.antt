@@ -1,4 +1,4 @@
--- When JSON must be read: it is read as the only tree that it spells.
+-- When JSON must be read: it is read as the only tree that it denotes.
 use Rattle.std.specs.Prelude.{◌≡◌, ℕ, List, Option, MatchOption, Result, MatchResult, Some, string_bytes, ◌⊎◌}
 use Rattle.postcard_wire.specs.Tree.{Tree, Trees, NoTrees, Then}
 use Rattle.postcard_wire.specs.Tree as nodes
@@ -54,7 +54,7 @@ IsMemberReading n m x = IsMember n (IsReading m x)
 abbrev pub IsContentReading : List ℕ → MessageType → Layout → Reading
 IsContentReading n m x = IsBoth (reads m) (IsVariantJson n x (IsJsonOf x))
 
--- The JSON spells the tree as the variant.
+-- The JSON denotes the tree as the variant.
 abbrev pub IsJsonOfVariant : Named Schema → Reading
 IsJsonOfVariant n t d = IsVariantJson (string_bytes n.name) (layout_of n.content) (IsJsonOf (layout_of n.content)) t d
 
@@ -62,11 +62,11 @@ IsJsonOfVariant n t d = IsVariantJson (string_bytes n.name) (layout_of n.content
 abbrev pub IsNameIn : List ℕ → Data → Type 0
 IsNameIn n d = (d ≡ string n) ⊎ ((e : Data) × (d ≡ alone n e))
 
--- What d spells by R, where R relates what is read and JSON: t, and, if the condition D holds, nothing else.
+-- What d denotes by R, where R relates what is read and JSON: t, and, if the condition D holds, nothing else.
 abbrev pub IsOnly : {T J : Type 0} → Type 0 → (T → J → Type 0) → T → J → Type 0
 IsOnly D R t d = R t d × (D → (u : _) → R u d → u ≡ t)
 
--- The result has what d spells by R, or is an error. If the condition D holds, it is an error other than of memory only if d spells
+-- The result has what d denotes by R, or is an error. If the condition D holds, it is an error other than of memory only if d denotes
 -- nothing.
 abbrev pub Answers : {V T J : Type 0} → Type 0 → (V → T) → (T → J → Type 0) → J → Result V JsonError → Type 0
 Answers D see R d r = MatchResult r (λ v. IsOnly D R (see v) d) (λ e. D → (u : _) → R u d → e ≡ OutOfMemory)
@@ -75,6 +75,6 @@ Answers D see R d r = MatchResult r (λ v. IsOnly D R (see v) d) (λ e. D → (u
 abbrev pub Reads : MessageType → Layout → Data → Result Value JsonError → Type 0
 Reads m x d r = Answers (HasDistinctNames x) tree (IsReading m x) d r
 
--- What d spells by R, or `None` if it spells nothing.
+-- What d denotes by R, or `None` if it denotes nothing.
 abbrev pub Finds : {V T : Type 0} → (V → T) → (T → Data → Type 0) → Data → Option V → Type 0
 Finds see R d o = MatchOption o ((u : _) → R u d → ⊥) (λ v. IsOnly (Unit {0}) R (see v) d)

@@ -20,6 +20,7 @@ IsItemAt n text rest = (left : List ℕ) × TakesPhrase (Then (IsSign 91) (AreVa
 abbrev pub IsNameText : List ℕ → List ℕ → Type 0
 IsNameText name text = IsString text × IsUtf8 text × (read text ≡ Some (string name))
 
+-- The text is a string that isn't the name.
 abbrev pub IsOtherName : List ℕ → List ℕ → Type 0
 IsOtherName name text = IsString text × (read text ≡ Some (string name) → ⊥)
 

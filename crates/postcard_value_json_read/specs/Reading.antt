@@ -28,6 +28,7 @@ use Rattle.postcard_value_json.specs.Written.{can_be_null, alone}
 abbrev pub IsUnsigned : ℕ → List ℕ → Type 0
 IsUnsigned n text = IsNumeral 10 (without_leading_plus text) × (n ≡ digits_value 10 (without_leading_plus text))
 
+-- The text is decimal digits of the signed number, perhaps after a sign.
 abbrev pub IsSigned : ℤ → List ℕ → Type 0
 IsSigned z text = IsNumeral 10 (without_leading_sign text) × (z ≡ signed_digits_value 10 text)
 
@@ -37,6 +38,7 @@ IsUnsignedJson n (number (unsigned m)) = n ≡ m
 IsUnsignedJson n (string s) = IsUnsigned n s
 IsUnsignedJson n d = ⊥
 
+-- The JSON is the signed number, as a number or as a string.
 abbrev pub IsSignedJson : ℤ → Data → Type 0
 IsSignedJson z (number (unsigned m)) = z ≡ pos m
 IsSignedJson z (number (negative w)) = z ≡ w
@@ -53,8 +55,8 @@ abbrev pub bits_near : FloatType → Float → ℕ
 bits_near F32 x = to_bits binary32 (round_to_format binary32 x)
 bits_near F64 x = to_bits binary64 x
 
--- The JSON is a number whose nearest float has these bits, or a string that spells them in the notation of `postcard_value_text`.
--- The number is first rounded to 64 bits.
+-- The JSON is a number whose nearest float has these bits, or a string that denotes them in the notation of `postcard_value_text`. The
+-- number is first rounded to 64 bits.
 abbrev pub IsFloatJson : FloatType → ℕ → Data → Type 0
 IsFloatJson f bits (number n) = bits ≡ bits_near f (to_float n)
 IsFloatJson f bits (string s) = SpellsFloat (format_of f) bits s
@@ -88,10 +90,12 @@ AreItems R NoTrees no_items = Unit {0}
 AreItems R (Then t ts) (item d ds) = R t d × AreItems R ts ds
 AreItems R ts ds = ⊥
 
+-- The JSON is the array of the elements of a list.
 abbrev pub IsListJson : Reading → Reading
 IsListJson R (nodes.Seq ts) d = (ds : Items) × (d ≡ values.array ds) × AreItems R ts ds
 IsListJson R t d = ⊥
 
+-- The JSON is the array of the elements of an array.
 abbrev pub IsArrayJson : Reading → Reading
 IsArrayJson R (nodes.Group ts) d = (ds : Items) × (d ≡ values.array ds) × AreItems R ts ds
 IsArrayJson R t d = ⊥
@@ -125,7 +129,7 @@ HasMembers n d = ⊥
 abbrev pub IsMember : List ℕ → Reading → Reading
 IsMember n R t d = (e : Data) × (get n d ≡ Some e) × R t e
 
--- A struct: an object with as many members as there are fields.
+-- A struct: an object with one member for each field.
 abbrev pub IsStructJson : ℕ → (Trees → Data → Type 0) → Reading
 IsStructJson n P (nodes.Group ts) d = HasMembers n d × P ts d
 IsStructJson n P t d = ⊥
@@ -135,6 +139,7 @@ abbrev pub IsVariantJson : List ℕ → Layout → Reading → Reading
 IsVariantJson n (tuple no_layouts) R t d = (t ≡ nodes.Group NoTrees) × (d ≡ string n)
 IsVariantJson n x R t d = (e : Data) × (d ≡ alone n e) × R t e
 
+-- The JSON is a value of an enum, by the variant at its index.
 abbrev pub IsChoiceJson : (ℕ → Reading) → Reading
 IsChoiceJson R (nodes.Variant i t) d = R i t d
 IsChoiceJson R t d = ⊥

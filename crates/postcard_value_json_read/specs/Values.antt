@@ -15,9 +15,11 @@ pub data Piece : Type 0 where
   bracket : ℕ → Piece
   other : ℕ → Piece
 
+-- Whether a byte is `[` or `{`.
 abbrev pub is_opening : ℕ → Bool
 is_opening b = b == 91 || b == 123
 
+-- Whether a byte is `]` or `}`.
 abbrev pub is_closing : ℕ → Bool
 is_closing b = b == 93 || b == 125
 
@@ -43,6 +45,7 @@ abbrev mutual
 abbrev pub IsNested : List ℕ → Type 0
 IsNested text = (b : ℕ) × (ps : List Piece) × (is_opening b ≡ true) × Closes 1 ps × (text ≡ b ∷ bytes ps)
 
+-- The text is a JSON string: quoted bytes between two double quotes.
 abbrev pub IsString : List ℕ → Type 0
 IsString text = (inside : List ℕ) × AreQuoted false inside × (text ≡ 34 ∷ (inside ++ 34 ∷ []))
 
@@ -50,6 +53,7 @@ IsString text = (inside : List ℕ) × AreQuoted false inside × (text ≡ 34 �
 abbrev pub ends_scalar : ℕ → Bool
 ends_scalar b = is_ascii_whitespace b || (b == 44 || is_closing b)
 
+-- The text has no byte that ends a number, `true`, `false` or `null`.
 abbrev pub IsScalar : List ℕ → Type 0
 IsScalar [] = Unit {0}
 IsScalar (b ∷ bs) = (ends_scalar b ≡ false) × IsScalar bs

@@ -23,7 +23,7 @@ pub enum Expected {
     ArrayOf(usize),
     /// `null`.
     Null,
-    /// An object with this number of members, one for each field of the struct.
+    /// An object with this number of members: one for each field of the struct.
     ObjectOf(usize),
     /// The item or the member with which the path ends.
     Present,
@@ -52,7 +52,7 @@ pub enum JsonError<'a> {
 }
 
 impl<'a> JsonError<'a> {
-    /// Returns the error at the place that is being read.
+    /// Returns the error of the JSON that is being read, with an empty path.
     pub fn here(alloc: Global, expected: Expected) -> JsonError<'a>
         ensures { IsAt [] expected result }
     {
@@ -64,8 +64,8 @@ impl<'a> JsonError<'a> {
         }
     }
 
-    /// Returns the error of a part as the error of the JSON around it, from which this step leads
-    /// to the part.
+    /// Returns the error of a part as the error of the JSON around it. The step leads from that
+    /// JSON to the part.
     pub fn within(self, step: Step<'a>) -> JsonError<'a>
         ensures place { IsWithin (plain_step step.entry) self.entry result }
         ensures memory { self.entry ≡ JsonError.OutOfMemory → result ≡ JsonError.OutOfMemory }

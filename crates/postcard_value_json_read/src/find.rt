@@ -43,8 +43,8 @@ pub(crate) fn has_members(json: &Json, count: usize) -> bool
     }
 }
 
-/// Returns the member with this name, or `None` unless the JSON is an object with this member
-/// alone.
+/// Returns the member with this name if the JSON is an object with this member alone, and else
+/// `None`.
 pub(crate) fn only_member<'a>(json: &'a Json, name: &str) -> Option<&'a Json>
     ensures found { IfSome result (λ found. view json.now ≡ alone name.now (view found.now)) }
     ensures none { IfNone result ((e : Data) → view json.now ≡ alone name.now e → ⊥) }
@@ -69,8 +69,8 @@ pub(crate) fn is_text(json: &Json, text: &str) -> bool
     }
 }
 
-/// Returns the error for JSON that isn't an object with as many members as there are fields. It
-/// names the first field that an object lacks, or else a member that is no field.
+/// Returns the error for JSON that isn't an object with one member for each field. It names the
+/// first field that an object lacks, or else a member that is no field.
 pub(crate) fn length_error<'a>(
     alloc: Global,
     fields: &'a Vec<Field>,
@@ -149,8 +149,8 @@ pub(crate) fn index_of(variants: &Vec<Variant>, json: &Json) -> usize
     variants.len()
 }
 
-/// Returns whether the JSON has the form of the variant: its name as a string if its content is the
-/// unit, and else an object with a member of this name alone.
+/// Returns whether the JSON has the form of the variant. If the variant's content is the unit, that
+/// is its name as a string. Otherwise it is an object with a member of this name alone.
 fn is_called(json: &Json, variant: &Variant) -> bool
     ensures called { result ≡ true → IsNameIn (string_bytes variant.now.name) (view json.now) }
     ensures other { result ≡ false → (t : Tree)

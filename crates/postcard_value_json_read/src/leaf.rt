@@ -100,8 +100,8 @@ fn find_bits(integer: Integer, json: &Json) -> Option<u128>
     }
 }
 
-/// Returns the number that the JSON is, as a number or as a string, or `None` if it is none that
-/// fits in 128 bits.
+/// Returns the number that the JSON is, as a number or as a string. Returns `None` if it is no
+/// number that fits in 128 bits.
 fn unsigned(json: &Json) -> Option<u128>
     ensures { MatchOption result ((n : ℕ) → n < 2 ^ 128 → IsUnsignedJson n (view json.now) → ⊥)
         (λ n. IsUnsignedJson n (view json.now)) }
@@ -118,8 +118,8 @@ fn unsigned(json: &Json) -> Option<u128>
     }
 }
 
-/// Returns the signed number that the JSON is, as a number or as a string, or `None` if it is none
-/// that fits in 128 bits.
+/// Returns the signed number that the JSON is, as a number or as a string. Returns `None` if it is
+/// no number that fits in 128 bits.
 fn signed(json: &Json) -> Option<i128>
     ensures fits { IfSome result (FitsSigned w128) }
     ensures found { MatchOption result
@@ -148,8 +148,8 @@ fn find_float(float: Float, json: &Json) -> Option<Value>
     }
 }
 
-/// Returns the bits of the float of the type that is nearest to the JSON number, or that the string
-/// spells, or `None` if the JSON is neither.
+/// Returns the bits of a float of the type: the nearest to a JSON number, or the one that a string
+/// denotes. Returns `None` if the JSON is neither.
 fn float_bits(float: Float, json: &Json) -> Option<u64>
     ensures { MatchOption result ((bits : ℕ) → IsFloatJson float bits (view json.now) → ⊥)
         (λ bits. IsFloatJson float bits (view json.now)

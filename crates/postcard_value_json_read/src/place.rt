@@ -1,4 +1,4 @@
-//! Where a part of a JSON text begins.
+//! Finds where a part of a JSON text begins, to give the character of an error.
 
 ghost use Rattle.std.specs.Prelude.{◌≡◌, ◌-◌, List, ℕ, ◌∷◌, ◌++◌, length, true, false, IfOk};
 ghost use Rattle.std.specs.Prelude.{IsUtf8, Some, ◌≤◌};
@@ -13,8 +13,8 @@ use postcard_schema_text::scan::{skip_blanks, take};
 use serde_json::Value as Json;
 use std::alloc::{AllocError, Global};
 
-/// Returns what is left of a JSON text from the part with this path on, or from the last part on
-/// the way to it that the text has. Fails if an allocation fails.
+/// Returns what is left of a JSON text from the part with this path on. If the text lacks that
+/// part, it is what is left from the last part on the way to it. Fails if an allocation fails.
 pub(crate) fn from_part<'a>(
     alloc: Global,
     text: &'a [u8],
@@ -32,8 +32,8 @@ pub(crate) fn from_part<'a>(
     Ok(rest)
 }
 
-/// Returns what is left of the text of an array or of an object from the part on to which the step
-/// leads. Fails if an allocation fails.
+/// Returns what is left of the text of an array or an object from the part to which the step leads.
+/// Fails if an allocation fails.
 fn from_step<'a>(alloc: Global, text: &'a [u8], step: Step<'_>) -> Result<&'a [u8], AllocError>
     ensures part { IfOk result (λ found. (rest : List ℕ)
         → LeadsTo (plain_step step.entry) text.now rest → found.now ≡ rest) }
@@ -90,7 +90,7 @@ fn from_member<'a>(alloc: Global, object: &'a [u8], name: &[u8]) -> Result<&'a [
     Ok(found)
 }
 
-/// Takes the blanks and the string at the front, and returns the string.
+/// Takes blanks and a string, and returns the string.
 fn take_string<'a>(rest: &mut &'a [u8]) -> &'a [u8]
     ensures taken { (quoted : List ℕ) (after : List ℕ) → IsString quoted
         → unblank rest.old.now ≡ quoted ++ after
@@ -126,8 +126,8 @@ fn is_string(alloc: Global, text: &[u8], name: &[u8]) -> Result<bool, AllocError
     }
 }
 
-/// Returns what is left of a text from this line and column on, each counted from 1: what follows
-/// `line - 1` lines with their line feeds and `column - 1` bytes.
+/// Returns what is left of a text from this line and column on, each counted from 1. Columns are
+/// counted in bytes.
 pub(crate) fn from_line(text: &[u8], line: usize, column: usize) -> &[u8]
     ensures { (lines : List ℕ) (before : List ℕ) (rest : List ℕ) → AreLines (line - 1) lines
         → length before ≡ column - 1 → text.now ≡ lines ++ (before ++ rest) → result.now ≡ rest }

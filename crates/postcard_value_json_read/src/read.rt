@@ -22,13 +22,13 @@ use postcard_value_text::is_unit;
 use serde_json::Value as Json;
 use std::alloc::Global;
 
-/// Reads the value of the schema that the JSON spells: what `to_json` returns of the value, or
+/// Reads the value of the schema that the JSON denotes: what `to_json` returns for the value, or
 /// another form of it.
 ///
 /// # Errors
 ///
-/// Fails with `NotAValue`, the place and what is expected there if the JSON is no value of the
-/// schema, and with `OutOfMemory` if an allocation fails.
+/// Fails with `NotAValue` if the JSON is no value of the schema. The error has the place and what
+/// is expected there. Fails with `OutOfMemory` if an allocation fails.
 pub fn from_json<'a>(
     alloc: Global,
     schema: &'a Schema,

@@ -1,11 +1,11 @@
-//! What follows a value at the front of a JSON text.
+//! Skips the value at the start of a JSON text.
 
 ghost use Rattle.std.specs.Prelude.{◌≡◌, ◌<◌, ◌≤◌, ◌+◌, ◌-◌, List, ℕ, ◌∷◌, ◌++◌, length, true};
 ghost use Rattle.std.specs.Prelude.{false};
 ghost use Rattle.postcard_value_json_read.specs.{AreQuoted, EndsScalar, IsEndOf, IsNested};
 ghost use Rattle.postcard_value_json_read.specs.{IsScalar, IsValue, ends_scalar, is_closing, is_opening};
 
-/// Returns what follows the value at the front.
+/// Returns what follows the value at the start of `text`.
 pub(crate) fn after_value(text: &[u8]) -> &[u8]
     ensures after { (value : List ℕ) (rest : List ℕ) → IsValue value → EndsScalar rest
         → text.now ≡ value ++ rest → result.now ≡ rest }
@@ -29,7 +29,7 @@ fn is_opening(byte: u8) -> bool
     byte == b'[' || byte == b'{'
 }
 
-/// Returns what follows the string at the front.
+/// Returns what follows the string at the start of `text`.
 pub(crate) fn after_string(text: &[u8]) -> &[u8]
     ensures after { (inside : List ℕ) (rest : List ℕ) → AreQuoted false inside
         → text.now ≡ 34 ∷ (inside ++ 34 ∷ rest) → result.now ≡ rest }
@@ -53,7 +53,7 @@ pub(crate) fn after_string(text: &[u8]) -> &[u8]
     left
 }
 
-/// Returns what follows the array or the object at the front.
+/// Returns what follows the array or the object at the start of `text`.
 fn after_nested(text: &[u8]) -> &[u8]
     ensures after { (value : List ℕ) (rest : List ℕ) → IsNested value → text.now ≡ value ++ rest
         → result.now ≡ rest }
@@ -89,7 +89,7 @@ fn depth_after(depth: usize, byte: u8) -> usize
     }
 }
 
-/// Returns what follows the number or the name at the front.
+/// Returns what follows the number, `true`, `false` or `null` at the start of `text`.
 fn after_scalar(text: &[u8]) -> &[u8]
     ensures after { (value : List ℕ) (rest : List ℕ) → IsScalar value → EndsScalar rest
         → text.now ≡ value ++ rest → result.now ≡ rest }

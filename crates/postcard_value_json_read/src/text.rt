@@ -58,12 +58,12 @@ impl fmt::Display for JsonTextError {
     }
 }
 
-/// Reads the value of the schema that the JSON text spells, by [`from_json`].
+/// Reads the value of the schema that the JSON text denotes, by [`from_json`].
 ///
 /// # Errors
 ///
-/// Fails with `NotAValue`, the place and what is expected there if the text is no JSON of a value
-/// of the schema, and with `OutOfMemory` if an allocation fails.
+/// Fails with `NotAValue` if the text is no JSON of a value of the schema. The error has the place
+/// and what is expected there. Fails with `OutOfMemory` if an allocation fails.
 pub fn read_json(alloc: Global, schema: &Schema, text: &str) -> Result<Value, JsonTextError>
     ensures value { IfOk result (λ v. reads (type_of schema.now) (tree v)) }
     ensures spelled { IfOk result (λ v. IsJsonText (layout_of schema.now) (tree v) text.now) }

@@ -199,7 +199,7 @@ variant_at [] i n low is = absurd (omega (arith, low))
 variant_at (m ∷ ms) zero n low is = ap (λ z. λ t. Then (IsWord (string_bytes z.name)) (SpellsContent (layout_of z.content) (SpellsTree (layout_of z.content)) t)) (sym is)
 variant_at (m ∷ ms) (suc i) n low is = variant_at ms i n (omega (arith, low)) is
 
--- The variant that is spelled, at its index.
+-- The variant that the text denotes, at its index.
 record VariantFront (ns : List (Named Schema)) (i : ℕ) (t : Tree) (a x : List ℕ) : Type 0 where
   variant : Named Schema
   low : i < length ns
@@ -233,7 +233,7 @@ pub record FirstCalled (ns : List (Named Schema)) (name : List ℕ) (k : ℕ) : 
   pub found : k < length ns → (n : Named Schema) × (n ≡ get_or ns k n) × (string_bytes n.name ≡ name)
   pub first : (i : ℕ) (n : Named Schema) → i < length ns → i < k → n ≡ get_or ns i n → string_bytes n.name ≢ name
 
--- It is that of the variant that is spelled.
+-- It is that of the variant that the text denotes.
 one_index : (ns : List (Named Schema)) (i k : ℕ) (name : List ℕ) (n : Named Schema) → NamesDiffer (fields_of ns) → FirstCalled ns name k → i < length ns → n ≡ get_or ns i n
     → string_bytes n.name ≡ name → k ≡ i
 one_index ns i k name n differ h low here is =

@@ -1,4 +1,4 @@
--- The names in a type that an expression spells tell its values apart.
+-- In a type that an expression denotes, names tell its values apart.
 use Rattle.std.proofs.Common.{◌≡◌, ℕ, zero, suc, ◌<◌, List, [], ◌∷◌, length, codes, string_bytes, sym, ap, subst, ◌∙◌, arith, inl, inr}
 use Rattle.std.proofs.lemmas.List.Elements.{All-head, All-tail}
 use Rattle.postcard_schema.specs.declared.leaf.Leaf.TheVariants as leaves
@@ -18,11 +18,11 @@ use Rattle.postcard_value_text.specs.Accepted as texts
 use Rattle.postcard_value_text.specs.Layout.{layout_of, layouts_of, fields_of}
 use Rattle.postcard_value_text.proofs.Layouts.{layout_of_leaf, layout_of_option, layout_of_seq, layout_of_map, layout_of_array, layout_of_tuple, layout_of_struct, layout_of_enum}
 
--- Each schema that T spells has distinct names.
+-- Each schema that T denotes has distinct names.
 abbrev Distinct : (Schema → List ℕ → Type 0) → Type 0
 Distinct T = (s : Schema) (t : List ℕ) → T s t → HasDistinctNames (layout_of s)
 
--- Each field or variant that T spells has a name, and its content has distinct names.
+-- Each field or variant that T denotes has a name, and its content has distinct names.
 abbrev Filled : (Named Schema → List ℕ → Type 0) → Type 0
 Filled T = (n : Named Schema) (t : List ℕ) → T n t → (0 < length (string_bytes n.name)) × HasDistinctNames (layout_of n.content)
 
@@ -125,6 +125,6 @@ type_distinct zero s t h = absurd h
 type_distinct (suc d) s t (inl h) = of_enum (IsType d) (type_distinct d) s t h
 type_distinct (suc d) s t (inr (k, few, h)) = of_options k (IsReferred (IsType d)) (of_referred (IsType d) (type_distinct d)) s t h
 
--- A type that an expression spells has distinct names.
+-- A type that an expression denotes has distinct names.
 pub expression_distinct : (s : Schema) (text : List ℕ) → IsExpression s text → HasDistinctNames (layout_of s)
 expression_distinct s text (x, y, h, blank, e) = type_distinct 64 s x h

@@ -1,4 +1,5 @@
--- The name of a field, alone or between double quotes: what is left of the text after it.
+-- The name of a field in a text: it stands as a word, `label`, or between double quotes, `"label"`. The lemmas say that both forms may have
+-- blanks before them, and that only one of them can stand at one place, with one remaining text after it.
 use Rattle.std.proofs.Common.{◌≡◌, ◌≢◌, ℕ, ◌<◌, Bor, List, [], ◌∷◌, ◌++◌, length, refl, sym, ap, ◌∙◌, true≢false, arith, ◌⊎◌, inl, inr}
 use Rattle.std.specs.Prelude.{Option, Some, None, IfSome, IfNone, MatchOption}
 use Rattle.std.proofs.lemmas.List.{append_assoc}
@@ -10,10 +11,11 @@ use Rattle.postcard_value_text.specs.Spelled.{Phrase, IsQuotedName, IsFieldName}
 use Rattle.postcard_value_text.proofs.Blanks.{led_then, word_trimmed}
 use Rattle.postcard_value_text.proofs.Fronts.{one_rest}
 
--- The rest of a name and the quote after it.
+-- The remaining bytes of a name and the quote after it.
 abbrev ended : List ℕ → Phrase
 ended name = λ end. end ≡ name ++ 34 ∷ []
 
+-- A text that begins with a field's name begins with it once the blanks before it are dropped.
 pub field_trimmed : (name a b r : List ℕ) → IsTrimAsciiStart a b → 0 < length name → TakesPhrase (IsFieldName name) a r → TakesPhrase (IsFieldName name) b r
 field_trimmed name a b r trim some (front, inl word, whole) =
     let k = word_trimmed name a b r trim some (front, word, whole) in
@@ -23,7 +25,7 @@ field_trimmed name a b r trim some (front, inr quoted, whole) =
     let all = takes_two (IsSign 34) (ended name) b k.0 r (34 ∷ [], ([], 34 ∷ [], (λ i d low. absurd (omega (arith, low))), refl, refl), next_sign 34 a b k.0 trim refl k.1) k.2 in
     (all.0, inr all.1, all.2)
 
--- Blanks may come before it.
+-- Blanks before a text that begins with a field's name may be added: it still begins with the name.
 pub field_more : (name a b c : List ℕ) → IsTrimAsciiStart a b → TakesPhrase (IsFieldName name) b c → TakesPhrase (IsFieldName name) a c
 field_more name a b c trim (front, inl word, whole) =
     let k = word_more name a b c trim (front, word, whole) in
@@ -32,11 +34,12 @@ field_more name a b c trim (front, inr quoted, whole) =
     let k = led_then (λ phrase. phrase ≡ 34 ∷ []) (ended name) a b c trim (front, quoted, whole) in
     (k.0, inr k.1, k.2)
 
+-- A field's name in a text is the word alone, or the word between quotes.
 pub field_is : (name a r : List ℕ) → TakesPhrase (IsFieldName name) a r → TakesPhrase (IsWord name) a r ⊎ TakesPhrase (IsQuotedName name) a r
 field_is name a r (front, inl word, whole) = inl (front, word, whole)
 field_is name a r (front, inr quoted, whole) = inr (front, quoted, whole)
 
--- A quote begins no word.
+-- No text begins with the name as a word and with the name in quotes, since a quote begins no word.
 pub word_or_quote : (name a r q : List ℕ) → 0 < length name → TakesPhrase (IsWord name) a r → TakesPhrase (IsQuotedName name) a q → ⊥
 word_or_quote [] a r q some h k = absurd (omega (arith, some))
 word_or_quote (x ∷ name) a r q some (front, (pass, led), whole) k =

@@ -1,4 +1,4 @@
--- Which float is at the front of a text.
+-- Which float is at the start of a text.
 use Rattle.std.proofs.Common.{◌≡◌, ℕ, ◌+◌, ◌<◌, ◌^◌, Bool, true, false, ◌||◌, ◌&&◌, List, [], ◌∷◌, ◌++◌, length, get_or, Some, codes, refl, sym, ap, subst, ◌∙◌, true≢false, arith, ◌⊎◌, inl, inr}
 use Rattle.std.proofs.lemmas.Bool.Decides.{nat_tests}
 use Rattle.std.proofs.lemmas.List.{append_assoc}
@@ -223,8 +223,8 @@ pub at_most_64 : (t : FloatType) (bits : ℕ) → AreNan (format_of t) bits → 
 at_most_64 F32 bits are = omega (arith, are.0)
 at_most_64 F64 bits are = omega (arith, are.0)
 
--- The number at the front of a text. It is the phrase, and the bits are those of the float that it is read as; or it is `nan`, and the
--- phrase goes on with its bits in parentheses.
+-- The number at the start of a text. Either the word is the whole phrase, and the bits are those of the float that it denotes. Or it is
+-- `nan`, and the phrase goes on with its bits in parentheses.
 pub Parsed : Format → ℕ → List ℕ → List ℕ → List ℕ → Type 0
 Parsed f bits word left after =
     (IsFloatWord f bits word × (left ≡ after))

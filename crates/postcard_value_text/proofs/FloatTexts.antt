@@ -107,7 +107,7 @@ nan_64 : to_bits binary64 nan ≡ 0x7ff8_0000_0000_0000
 unfolding to_bits
 nan_64 = refl
 
--- A word that is read as the float with these bits spells them.
+-- A word that is read as the float with these bits denotes them.
 pub word_spells : (f : Format) (bits : ℕ) (x : Float) (word : List ℕ) → parse_float f word ≡ Some x → bits ≡ to_bits f x → SpellsFloat f bits word
 word_spells f bits x word reads is = inl ([], word, no_blanks, (x, reads, is), refl)
 
@@ -126,12 +126,12 @@ usual_32 bits is = word_spells binary32 bits nan (codes "nan") (nan_reads binary
 pub usual_64 : (bits : ℕ) → bits ≡ 0x7ff8_0000_0000_0000 → SpellsFloat binary64 bits (codes "nan")
 usual_64 bits is = word_spells binary64 bits nan (codes "nan") (nan_reads binary64) (is ∙ sym nan_64)
 
--- The text of a float that is no NaN spells the bits that it was made of.
+-- The text of a float that is no NaN denotes the bits that it was made of.
 pub number_spells : (f : Format) (bits : ℕ) (word : List ℕ) → bits < 2 * top f → is_nan (of_bits f bits) ≡ false → parse_float f word ≡ Some (of_bits f bits) → SpellsFloat f bits word
 number_spells f bits word low other reads =
     word_spells f bits (of_bits f bits) word reads (sym (to_bits-of_bits f bits low (rw other tt)))
 
--- The bits of a NaN in parentheses spell the NaN.
+-- The bits of a NaN in parentheses denote the NaN.
 pub nan_spells : (f : Format) (bits : ℕ) → AreNan f bits → bits < 16 ^ 64 → SpellsFloat f bits (codes "nan(0x" ++ (digits 16 false bits ++ 41 ∷ []))
 nan_spells f bits are low =
     let ds = digits 16 false bits in

@@ -1,4 +1,4 @@
--- What is at the front of a text of the grammar of values: numbers, words and signs, and what may follow them.
+-- What is at the start of a text of the grammar of values: numbers, words and signs, and what may follow them.
 use Rattle.std.proofs.Common.{◌≡◌, ◌≢◌, ℕ, zero, suc, ◌<◌, Bool, true, false, cond, List, [], ◌∷◌, ◌++◌, length, get_or, drop, codes, refl, sym, ap, subst, ◌∙◌, arith, inl, inr}
 use Rattle.std.proofs.lemmas.Bool.Decides.{nat_tests}
 use Rattle.std.proofs.lemmas.List.{append_assoc}
@@ -59,7 +59,7 @@ scalar_first : (w r : List ℕ) → AllPass is_of_float w → 0 < length w → u
 scalar_first [] r pass some = absurd (omega (arith, some))
 scalar_first (x ∷ w) r pass some = unblank_black x (w ++ r) (scalar_black x (pass_head is_of_float x w pass))
 
--- A phrase of P is at the front of b.
+-- A phrase of P is at the start of b.
 pub record ScalarFront (P : Phrase) (b after : List ℕ) : Type 0 where
   pub word : List ℕ
   pub is : P word

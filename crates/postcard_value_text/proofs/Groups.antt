@@ -192,7 +192,7 @@ module _ {N : Type 0} {R : Tree → Type 0} {S : Speller} (name : List ℕ) {a b
 abbrev pub IsEntry : (Tree → Type 0) → (Tree → Type 0) → Tree → Type 0
 IsEntry K V = IsGroup (IsThen K (IsThen V IsEnd))
 
--- What the entries of a map with these types of keys and values are, and which texts spell them.
+-- What the entries of a map with these types of keys and values are, and which texts denote them.
 abbrev pub entry_names : Schema → Schema → Type 0
 entry_names x y = HasDistinctNames (layout_of x) × HasDistinctNames (layout_of y)
 

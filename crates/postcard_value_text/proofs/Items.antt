@@ -25,7 +25,7 @@ use Rattle.postcard_value_text.proofs.Signs.{takes_none, none_taken}
 abbrev pub row : List Value → Trees
 row vs = trees (map tree vs)
 
--- One value more in front of those that were read.
+-- One value more before those that were read.
 pub one_more : (r : Result (List Value) Stop) (l x : List ℕ) (v : Value) {ts more : Trees} {t : Tree} → ts ≡ nodes.Then t more → t ≡ tree v
     → ReadsAs (λ vs. more ≡ row vs) r l x → ReadsAs (λ vs. ts ≡ row vs) (prefixed (v ∷ []) r) l x
 one_more (Ok vs) l x v {more = more} whole same h = (whole ∙ ap (λ s. nodes.Then s more) same ∙ ap (nodes.Then (tree v)) h.0, h.1)

@@ -1,4 +1,4 @@
--- The value without parts that is at the front of a text.
+-- The value without parts that is at the start of a text.
 use Rattle.std.proofs.Common.{◌≡◌, ℕ, Bool, true, false, List, [], ◌++◌, map, refl, sym, ap, subst, ◌∙◌}
 use Rattle.std.specs.Char.{encode_utf8, IsScalar}
 use Rattle.std.specs.Str.{IsTrimAsciiStart, IsUtf8}
@@ -20,7 +20,7 @@ use Rattle.postcard_value_text.specs.Spelled.{IsTruth, SpellsLeaf}
 use Rattle.postcard_value_text.proofs.Blanks.{quoted_trimmed, bytes_trimmed, float_trimmed}
 use Rattle.postcard_value_text.proofs.Fronts.{scalar_trimmed, bits_scalars, truth_scalars}
 
--- A text spells one boolean.
+-- A text denotes one boolean.
 pub one_truth : (x y : Bool) (word : List ℕ) → IsTruth x word → IsTruth y word → x ≡ y
 one_truth true true word a b = refl
 one_truth true false word a b = cc (sym a ∙ b)

@@ -1,4 +1,4 @@
--- Texts of numbers: what stands before their digits, and that a text spells one number.
+-- Texts of numbers: what stands before their digits, and that a text denotes one number.
 use Rattle.std.proofs.Common.{◌≡◌, ◌≢◌, ℕ, ℤ, pos, neg_ℤ, zero, suc, ◌<◌, Bool, true, false, cond, ◌^◌, List, [], ◌∷◌, ◌++◌, drop, codes, refl, sym, ap, subst, ◌∙◌, arith}
 use Rattle.std.proofs.lemmas.Bool.Decides.{nat_tests}
 use Rattle.std.specs.Int.{w128}
@@ -15,12 +15,12 @@ use Rattle.postcard_value.specs.Numbers.{IsBitsOf}
 use Rattle.postcard_value.specs.NumberLemmas.{same_bits}
 use Rattle.postcard_value_text.specs.Numbers.{IsUnsigned, IsSigned, HasBits}
 
--- A word of which no number below 2 ^ 128 is known spells none.
+-- A word of which no number below 2 ^ 128 is known denotes none.
 pub no_literal : (e : LiteralError) (text : List ℕ) → IsNoNumber (λ n. IsLiteral n text) e → (n : ℕ) → n < 2 ^ 128 → IsLiteral n text → ⊥
 no_literal Malformed text none n low h = none n h
 no_literal TooLarge text (m, is, large) n low h = let same = one_literal m n text is h in omega (arith, low, large, same)
 
--- A text spells one number.
+-- A text denotes one number.
 pub one_unsigned : (n m : ℕ) (text : List ℕ) → IsUnsigned n text → IsUnsigned m text → n ≡ m
 one_unsigned n m text a b = one_literal n m (without_leading_plus text) a b
 
@@ -33,7 +33,7 @@ pub one_bits : (signed : Bool) (i : Integer) (m n : ℕ) (text : List ℕ) → H
 one_bits true i m n text (y, a, h) (z, b, k) = same_bits i y z m n (one_signed y z text h k) a b
 one_bits false i m n text (low, h) (high, k) = one_unsigned m n text h k
 
--- The bits of the signed number that a text spells, and of no other.
+-- The bits of the signed number that a text denotes, and of no other.
 pub signed_found : (i : Integer) (text : List ℕ) (z : ℤ) (r : Option ℕ) → IsSigned z text → IfSome r (λ n. IsBitsOf i z n) → IfSome r (λ n. HasBits true i n text)
 signed_found i text z None is h = tt
 signed_found i text z (Some n) is h = (z, h, is)
@@ -67,7 +67,7 @@ neg_small : (n : ℕ) → FitsSigned w128 (neg_ℤ (pos n)) → n < 2 ^ 128
 neg_small zero h = omega arith
 neg_small (suc n) h = omega (arith, ints, h.sfits)
 
--- The number that is spelled, and its digits.
+-- The number that the text denotes, and its digits.
 abbrev pub SignedBy : (ℕ → ℤ) → List ℕ → ℤ → Type 0
 SignedBy f digits z = (n : ℕ) × (n < 2 ^ 128) × IsLiteral n digits × (z ≡ f n)
 
@@ -95,7 +95,7 @@ minus_found word rest n (Some x) z e is (fits, eq) same =
     let k = minus_taken word rest e in
     (n, subst (IsLiteral n) (sym k.1) is, eq ∙ same ∙ ap (λ b. cond b (minus n) (pos n)) (sym k.0))
 
--- The word spells no number that fits, since the one that it spells doesn't.
+-- The word denotes no number that fits, since the only number that it denotes doesn't fit.
 pub minus_refused : (word rest : List ℕ) (n : ℕ) (r : Option ℤ) (z : ℤ) → word ≡ codes "-" ++ rest → IsLiteral n rest → SomeIff r (FitsSigned w128 z) z → z ≡ minus n
     → IfNone r ((y : ℤ) → FitsSigned w128 y → IsSigned y word → ⊥)
 minus_refused word rest n None z e is some same = λ y fits h.

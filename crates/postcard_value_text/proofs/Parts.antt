@@ -27,7 +27,7 @@ abbrev pub AllAre : {A : Type 0} → (A → Tree → Type 0) → List A → Tree
 AllAre R [] ts = IsEnd ts
 AllAre R (x ∷ xs) ts = IsThen (R x) (AllAre R xs) ts
 
--- The phrases of trees, each by its own speller.
+-- The phrases of trees in a row. For each tree its own relation says which texts denote it.
 abbrev pub phrases_by : {A : Type 0} → (A → Speller) → List A → Trees → List Phrase
 phrases_by S [] NoTrees = []
 phrases_by S (x ∷ xs) (nodes.Then t ts) = S x t ∷ phrases_by S xs ts

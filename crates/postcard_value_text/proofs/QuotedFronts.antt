@@ -242,7 +242,7 @@ code_digit count code c byte a b r h first other = by h.digits h.all h.says h.fe
 
 -- ---- byte strings
 
--- Digits spell the bytes of one list.
+-- Digits denote the bytes of one list.
 pub one_bytes : (bs cs text : List ℕ) → AreDigitsOf bs text → AreDigitsOf cs text → bs ≡ cs
 one_bytes [] [] text h k = refl
 one_bytes [] (c ∷ cs) text none (x, y, rest, p, q, is, more, whole) = absurd (not_empty (sym none ∙ whole))

@@ -61,7 +61,7 @@ byte_more [] high low text none h l = (high, low, [], h, l, refl, refl, ap (λ t
 byte_more (b ∷ bs) high low text (x, y, rest, p, q, is, more, whole) h l =
     (x, y, rest ++ high ∷ low ∷ [], p, q, is, byte_more bs high low rest more h l, ap (λ t. t ++ high ∷ low ∷ []) whole)
 
--- The bytes are spelled by the digits up to `rest`, two for each.
+-- The bytes are denoted by the digits up to `rest`, two for each.
 abbrev pub HasBytes : List ℕ → ℕ → List ℕ → List ℕ → Type 0
 HasBytes bytes count digits rest = (front : List ℕ) × AreDigitsOf bytes front × (digits ≡ front ++ rest) × (length rest + 2 * count ≡ length digits)
 
@@ -77,6 +77,7 @@ pub all_hexadecimal : (bytes text : List ℕ) → AreDigitsOf bytes text → All
 all_hexadecimal [] text none = rw none tt
 all_hexadecimal (b ∷ bs) text (x, y, rest, p, q, is, more, whole) = rw whole (p, (q, all_hexadecimal bs rest more))
 
+-- A byte string has two digits for each byte.
 pub even : (bytes text : List ℕ) → AreDigitsOf bytes text → length text ≡ 2 * length bytes
 even [] text none = ap length none
 even (b ∷ bs) text (x, y, rest, p, q, is, more, whole) =

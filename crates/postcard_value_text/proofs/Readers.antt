@@ -70,7 +70,7 @@ module _ {T U : Type 0} {see : T → U} {N : Type 0} {R : U → Type 0} {S : U �
   pub named_as : {M : Type 0} {r : Result T Stop} → (M → N) → ReadsText see N R S a r b → ReadsText see M R S a r b
   named_as f h = record { value = h.value; spelled = h.spelled; accepted = λ names. h.accepted (f names) }
 
-  -- An error, if there is no such front.
+  -- An error if there is no such prefix.
   pub refused : {e : Stop} → (N → (u : U) (x : List ℕ) → R u → TakesPhrase (S u) a x → FollowsValue x → ⊥) → ReadsText see N R S a (Err e) b
   refused none = record { value = tt; spelled = tt; accepted = λ names u x is k goes. absurd (none names u x is k goes) }
 
@@ -131,12 +131,12 @@ module _ {T U : Type 0} (see : T → U) (N : Type 0) (R : U → Type 0) (S : U �
 
 -- ---- loops
 
--- The values vs in front of those that the result has, or its error.
+-- The values vs before those of the result, or the result's error.
 abbrev pub prefixed : {V : Type 0} → List V → Result (List V) Stop → Result (List V) Stop
 prefixed vs (Ok ws) = Ok (vs ++ ws)
 prefixed vs (Err e) = Err e
 
--- However reading what is left ends, reading the whole ends likewise, with the values that are read in front.
+-- Reading the whole ends as reading the remaining text does. If that succeeds, the values read before come first.
 pub record Going {V : Type 0} (Whole Rest : Result (List V) Stop → List ℕ → Type 0) (done : List V) : Type 0 where
   pub ends : (r : Result (List V) Stop) (b : List ℕ) → Rest r b → Whole (prefixed done r) b
 

@@ -52,14 +52,14 @@ FollowsValue text = GoesOnBy follows_type text
 abbrev pub ReadsAs : {V : Type 0} → (V → Type 0) → Result V Stop → List ℕ → List ℕ → Type 0
 ReadsAs P r left after = MatchResult r (λ v. P v × (left ≡ after)) (λ stop. stop ≡ Memory)
 
--- Each front of the text that spells a tree of R is read as that tree if what follows it may follow a value. Just that front is taken, or
--- memory is lacking.
+-- Each prefix of the text that denotes a tree of R is read as that tree if what follows it may follow a value. Just that prefix is taken,
+-- or memory is lacking.
 abbrev pub Accepts : (Tree → Type 0) → Speller → List ℕ → Result Value Stop → List ℕ → Type 0
 Accepts R S text r left = (t : Tree) (after : List ℕ) → R t → TakesPhrase (S t) text after → FollowsValue after → ReadsAs (IsTree t) r left after
 
--- The answer r of a call that reads from the start of the text, and leaves `left`. What it reads is of R, and the text before `left` spells it.
--- If N holds, which says that names tell values apart, each front that spells one of R is read as that one, and just that front is taken. It
--- needs that what follows the front may follow a value, and that memory suffices.
+-- The answer r of a call that reads from the start of the text, and leaves `left`. What it reads is of R, and the text before `left`
+-- denotes it. N says that names tell values apart. If it holds, each prefix that denotes a tree of R is read as that tree, and just that
+-- prefix is taken. It needs that what follows the prefix may follow a value, and that memory suffices.
 pub record ReadsText {T V : Type 0} (see : V → T) (N : Type 0) (R : T → Type 0) (S : T → List ℕ → Type 0) (text : List ℕ) (r : Result V Stop) (left : List ℕ) : Type 0 where
   pub value : IfOk r (λ v. R (see v))
   pub spelled : IfOk r (λ v. TakesPhrase (S (see v)) text left)

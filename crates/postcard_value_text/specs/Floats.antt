@@ -1,4 +1,4 @@
--- Which texts spell the bits of a float.
+-- Which texts denote the bits of a float.
 use Rattle.std.specs.Prelude.{◌≡◌, ℕ, ◌*◌, ◌<◌, nat_eq, Bool, true, false, ◌||◌, ◌⊎◌, List, [], ◌∷◌, ◌++◌, Result, Some, codes}
 use Rattle.std.specs.Fmt.{WritesOnOk}
 use Rattle.std.specs.declared.fmt.Error.{Error}
@@ -16,7 +16,8 @@ abbrev pub format_of : FloatType → Format
 format_of F32 = binary32
 format_of F64 = binary64
 
--- Whether a byte may be part of a number's text, but for that of an unusual NaN: a letter or a digit of ASCII, `_`, `+`, `-` or `.`.
+-- Whether a byte may be part of a float's text: a letter or a digit of ASCII, `_`, `+`, `-` or `.`. The bits of an unusual NaN in
+-- parentheses are not counted here.
 abbrev pub is_of_float : ℕ → Bool
 is_of_float b = is_of_word b || (nat_eq b 43 || (nat_eq b 45 || nat_eq b 46))
 
@@ -37,7 +38,7 @@ IsHexadecimal n text = (digits : List ℕ) × IsNumeral 16 digits × (n ≡ digi
 abbrev pub IsNanText : Format → ℕ → List ℕ → Type 0
 IsNanText f bits text = AreNan f bits × Then (IsWord (codes "nan")) (Then (IsSign 40) (Then (IsHexadecimal bits) (IsSign 41))) text
 
--- The text spells the float with these bits.
+-- The text denotes the float with these bits.
 abbrev pub SpellsFloat : Format → ℕ → List ℕ → Type 0
 SpellsFloat f bits text = Led (IsFloatWord f bits) text ⊎ IsNanText f bits text
 
@@ -50,6 +51,6 @@ EndsNumber (b ∷ text) = is_of_float b ≡ false
 abbrev pub EndsFloat : List ℕ → Type 0
 EndsFloat text = EndsNumber text × ((after : List ℕ) → TakesPhrase (IsSign 40) text after → ⊥)
 
--- If `old` is plain and r is `Ok`, a text that spells the float with these bits was written.
+-- If `old` is plain and r is `Ok`, a text that denotes the float with these bits was written.
 abbrev pub ShowsFloat : {W : Type 0} → Format → ℕ → (W → List ℕ → W → Type 0) → Formatter W → Result (Unit {0}) Error → Formatter W → Type 0
 ShowsFloat f bits took old r new = (shown : List ℕ) × SpellsFloat f bits shown × WritesOnOk took old r shown new

@@ -1,4 +1,4 @@
--- Which texts spell a number of an integer type, by itself and by its bits: a literal of Rust, and perhaps a sign before it.
+-- Which texts denote a number of an integer type, by itself and by its bits: a literal of Rust, and perhaps a sign before it.
 use Rattle.std.specs.Prelude.{◌≡◌, ℕ, ◌<◌, ◌^◌, ℤ, pos, neg_ℤ, Bool, true, false, cond, List}
 use Rattle.std.specs.Str.Parse.{starts_with_minus, without_leading_plus, without_leading_sign}
 use Rattle.postcard_schema.specs.declared.leaf.Integer.{Integer}

@@ -1,4 +1,4 @@
--- Quoted texts and byte strings: which texts spell the bytes of a value.
+-- Quoted texts and byte strings: which texts denote the bytes of a value.
 use Rattle.std.specs.Prelude.{◌≡◌, ◌≢◌, ℕ, ◌+◌, ◌*◌, ◌<◌, ◌≤◌, ◌⊎◌, List, [], ◌∷◌, ◌++◌, length}
 use Rattle.std.specs.List.{AllByRecursion, flat_map}
 use Rattle.std.specs.Char.{IsScalar, digit_value, encode_utf8}

@@ -1,6 +1,6 @@
--- The text of a value of a type with names, on one line. The contract of std doesn't say how a text or a character that isn't ASCII is
--- escaped, and that of `ryu` not which digits a float has. Nothing is said then of the whole text (`None`). The text of a float alone
--- spells it (`ShowsFloat`).
+-- The text of a value of a type with names, on one line. The contract of std doesn't say how a string or a character that isn't ASCII is
+-- escaped. The contract of `ryu` doesn't say which digits a float has. Nothing is said then of the whole text (`None`). The text of a float
+-- alone denotes it (`ShowsFloat`).
 use Rattle.std.specs.Prelude.{ℕ, zero, suc, ◌/◌, ◌%◌, Bool, true, false, not, ◌&&◌, ◌==◌, nat_lt, if◌then◌else◌, List, [], ◌∷◌, ◌++◌, Option, Some, None, codes}
 use Rattle.std.specs.Fmt.{◌++?◌, decimal, signed_decimal, digits, debug_char, debug_str}
 use Rattle.postcard_wire.specs.Tree.{Tree, Trees, Byte, Boolean, Num, Int, Text, NoTrees, Then}
@@ -52,6 +52,7 @@ abbrev pub each_after : List ℕ → List (Option (List ℕ)) → Option (List �
 each_after separator [] = Some []
 each_after separator (x ∷ xs) = Some separator ++? x ++? each_after separator xs
 
+-- The texts of a row, with a separator between two of them. It is none if one of them has no text.
 abbrev pub joined : List ℕ → List (Option (List ℕ)) → Option (List ℕ)
 joined separator [] = Some []
 joined separator (x ∷ xs) = x ++? each_after separator xs
@@ -75,18 +76,22 @@ each_by ps ts = []
 abbrev pub enclosed : List ℕ → Option (List ℕ) → List ℕ → Option (List ℕ)
 enclosed opening inside closing = Some opening ++? inside ++? Some closing
 
+-- `None`, or `Some(..)` with the text of the value.
 abbrev pub option_text : Printer → Printer
 option_text p nodes.Absent = Some (codes "None")
 option_text p (nodes.Present t) = enclosed (codes "Some(") (p t) (codes ")")
 option_text p t = None
 
+-- The texts of elements in `[` and `]`, with `, ` between two of them.
 abbrev pub items_text : Printer → Trees → Option (List ℕ)
 items_text p ts = enclosed (codes "[") (joined (codes ", ") (all_by p ts)) (codes "]")
 
+-- The elements of a list in `[` and `]`.
 abbrev pub list_text : Printer → Printer
 list_text p (nodes.Seq ts) = items_text p ts
 list_text p t = None
 
+-- The elements of an array in `[` and `]`.
 abbrev pub array_text : Printer → Printer
 array_text p (nodes.Group ts) = items_text p ts
 array_text p t = None
@@ -95,6 +100,7 @@ array_text p t = None
 abbrev pub entries_text : Printer → Trees → Option (List ℕ)
 entries_text p ts = enclosed (codes "{") (joined (codes ", ") (all_by p ts)) (codes "}")
 
+-- The entries of a map in `{` and `}`.
 abbrev pub map_text : Printer → Printer
 map_text p (nodes.Seq ts) = entries_text p ts
 map_text p t = None
@@ -109,9 +115,11 @@ abbrev pub tuple_end : Layouts → List ℕ
 tuple_end (then_layout x no_layouts) = codes ",)"
 tuple_end xs = codes ")"
 
+-- The texts of parts in `(` and `)`, with `, ` between two of them.
 abbrev pub parts_text : Layouts → List Printer → Trees → Option (List ℕ)
 parts_text xs ps ts = enclosed (codes "(") (joined (codes ", ") (each_by ps ts)) (tuple_end xs)
 
+-- The parts of a tuple in `(` and `)`. After a single part comes a `,`.
 abbrev pub tuple_text : Layouts → List Printer → Printer
 tuple_text xs ps (nodes.Group ts) = parts_text xs ps ts
 tuple_text xs ps t = None
@@ -120,10 +128,12 @@ tuple_text xs ps t = None
 abbrev pub fields_text : List Printer → Trees → Option (List ℕ)
 fields_text ps ts = enclosed (codes "{") (joined (codes ", ") (each_by ps ts)) (codes "}")
 
+-- The fields of a struct in `{` and `}`.
 abbrev pub struct_text : List Printer → Printer
 struct_text ps (nodes.Group ts) = fields_text ps ts
 struct_text ps t = None
 
+-- The name of a field, `: ` and the text of its value.
 abbrev pub field_text : List ℕ → Printer → Printer
 field_text name p t = Some (name ++ codes ": ") ++? p t
 
@@ -135,6 +145,7 @@ content_text x p t = if is_unit x then Some [] else (if has_brackets x then p t 
 abbrev pub variant_text : List ℕ → Layout → Printer → Printer
 variant_text name x p t = Some name ++? content_text x p t
 
+-- The text of an enum's value, by the variant at its index.
 abbrev pub choice_text : (ℕ → Printer) → Printer
 choice_text p (nodes.Variant i t) = p i t
 choice_text p t = None

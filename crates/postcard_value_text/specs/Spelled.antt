@@ -1,4 +1,4 @@
--- Which texts spell a value of a type with names. Blanks, the white space of ASCII, may come before any word or sign.
+-- Which texts denote a value of a type with names. Blanks, the white space of ASCII, may come before any word or sign.
 use Rattle.std.specs.Prelude.{◌≡◌, ℕ, zero, suc, Bool, true, false, ◌⊎◌, List, [], ◌∷◌, ◌++◌, map, codes}
 use Rattle.std.specs.Bool.{MatchBool}
 use Rattle.std.specs.Char.{encode_utf8}
@@ -22,7 +22,7 @@ use Rattle.postcard_value_text.specs.Layout.{Layout, Layouts, Fields, leaf, opti
 abbrev pub Phrase : Type 1
 Phrase = List ℕ → Type 0
 
--- Which texts spell a tree.
+-- Which texts denote a tree.
 abbrev pub Speller : Type 1
 Speller = Tree → List ℕ → Type 0
 
@@ -54,6 +54,7 @@ abbrev pub RowAfter : List Phrase → List ℕ → Type 0
 RowAfter [] text = text ≡ []
 RowAfter (P ∷ Ps) text = Then (IsSign 44) (Then P (RowAfter Ps)) text
 
+-- The text is phrases in a row, with a `,` between two of them.
 abbrev pub Row : List Phrase → List ℕ → Type 0
 Row [] text = text ≡ []
 Row (P ∷ Ps) text = Then P (RowAfter Ps) text
@@ -68,15 +69,15 @@ abbrev pub Unless : Bool → Phrase → List ℕ → Type 0
 Unless true P text = text ≡ []
 Unless false P text = P text
 
--- Phrases with `,` between two of them, and a closing bracket; and the same after an opening bracket. A `,` may follow the last
--- phrase.
+-- The text is phrases in a row and a closing bracket. A `,` may follow the last phrase.
 abbrev pub AreClosed : ℕ → List Phrase → List ℕ → Type 0
 AreClosed closing Ps text = Then (Row Ps) (Then (Unless (are_none Ps) (IsMaybe 44)) (IsSign closing)) text
 
+-- The text is an opening bracket, and then phrases in a row and a closing bracket.
 abbrev pub AreEnclosed : ℕ → ℕ → List Phrase → List ℕ → Type 0
 AreEnclosed opening closing Ps text = Then (IsSign opening) (AreClosed closing Ps) text
 
--- The phrases of trees, all by one speller.
+-- The phrases of trees in a row. One relation says for all of them which texts denote a tree.
 abbrev pub phrases : Speller → Trees → List Phrase
 phrases S NoTrees = []
 phrases S (nodes.Then t ts) = S t ∷ phrases S ts
@@ -92,6 +93,7 @@ abbrev pub SpellsList : ℕ → ℕ → Speller → Tree → List ℕ → Type 0
 SpellsList opening closing S (nodes.Seq ts) text = AreEnclosed opening closing (phrases S ts) text
 SpellsList opening closing S t text = ⊥
 
+-- The text denotes an array, as its elements in `[` and `]`.
 abbrev pub SpellsArray : Speller → Tree → List ℕ → Type 0
 SpellsArray S (nodes.Group ts) text = AreEnclosed 91 93 (phrases S ts) text
 SpellsArray S t text = ⊥
@@ -121,12 +123,13 @@ SpellsContent x S t text = Then (IsSign 40) (Then (S t) (IsSign 41)) text
 abbrev pub SpellsVariant : List ℕ → Layout → Speller → Tree → List ℕ → Type 0
 SpellsVariant name x S t text = Then (IsWord name) (SpellsContent x S t) text
 
+-- The text denotes a value of an enum, by the variant at its index.
 abbrev pub SpellsChoice : (ℕ → Speller) → Tree → List ℕ → Type 0
 SpellsChoice S (nodes.Variant i t) text = S i t text
 SpellsChoice S t text = ⊥
 
 abbrev mutual
-  -- The text spells the tree, as one of the type.
+  -- The text denotes the tree, as a tree of the type.
   pub SpellsTree : Layout → Tree → List ℕ → Type 0
   SpellsTree (leaf l) t text = SpellsLeaf l t text
   SpellsTree (option x) t text = SpellsOption (SpellsTree x) t text
@@ -137,7 +140,7 @@ abbrev mutual
   SpellsTree (structure fs) t text = SpellsGroup 123 125 (field_phrases fs) t text
   SpellsTree (choice fs) t text = SpellsChoice (SpellsAt fs) t text
 
-  -- The phrases of trees, one of each type, in order. If there are more types than trees, or fewer, no text spells them.
+  -- The phrases of trees, one of each type, in order. If there are more types than trees, or fewer, no text denotes them.
   pub part_phrases : Layouts → Trees → List Phrase
   part_phrases no_layouts NoTrees = []
   part_phrases (then_layout x xs) (nodes.Then t ts) = SpellsTree x t ∷ part_phrases xs ts
@@ -149,12 +152,12 @@ abbrev mutual
   field_phrases (then_field n x fs) (nodes.Then t ts) = SpellsField n (SpellsTree x) t ∷ field_phrases fs ts
   field_phrases fs ts = (λ text. ⊥) ∷ []
 
-  -- The text spells the variant at an index, counted from 0.
+  -- The text denotes the variant at an index, counted from 0.
   pub SpellsAt : Fields → ℕ → Tree → List ℕ → Type 0
   SpellsAt no_fields i t text = ⊥
   SpellsAt (then_field n x fs) zero t text = SpellsVariant n x (SpellsTree x) t text
   SpellsAt (then_field n x fs) (suc i) t text = SpellsAt fs i t text
 
--- The text spells the value, of the schema. Blanks may follow.
+-- The text denotes the value of the schema. Blanks may follow.
 abbrev pub SpellsValue : Schema → Value → List ℕ → Type 0
 SpellsValue schema v text = Then (SpellsTree (layout_of schema) (tree v)) AreBlank text

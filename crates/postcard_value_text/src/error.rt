@@ -48,14 +48,14 @@ pub enum Stop<'a> {
 }
 
 impl<'a> Stop<'a> {
-    /// Returns `At` with the place at the front of `rest`, where this is expected.
+    /// Returns `At` with the first byte of `rest` as the place, and this as what is expected there.
     pub fn here(rest: &[u8], expected: Expected<'a>) -> Stop<'a>
         ensures { result ≡ Stop.At (length rest.now) expected.entry }
     {
         Stop::At(rest.len(), expected)
     }
 
-    /// Returns the error of reading `text`, which has the place of this stop.
+    /// Returns the error of reading `text`, in which this is the place of the stop.
     pub fn error_in(self, text: &str) -> TextError<'a>
         ensures place { IsPlaceIn text.now result }
         ensures memory { self.entry ≡ Stop.Memory → result ≡ TextError.OutOfMemory }

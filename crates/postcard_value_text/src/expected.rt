@@ -33,7 +33,7 @@ pub enum Expected<'a> {
     CommaOr(u8),
     /// `=>`, between the key and the value of an entry of a map.
     Arrow,
-    /// As many elements as the array has.
+    /// The number of elements that the array has.
     Elements(usize),
     /// The end of the text.
     End,

@@ -1,8 +1,8 @@
 //! Texts of floats, by their bits: printing and reading.
 //!
 //! A float is printed as the shortest number that is read as the same float, with a point or an
-//! exponent: `1.5`, `-0.0`, `1e30`. The others are `inf`, `-inf` and `nan`, and a NaN with other
-//! bits than `f32::NAN` or `f64::NAN` has these in parentheses: `nan(0x7fc00001)`.
+//! exponent: `1.5`, `-0.0`, `1e30`. The others are `inf`, `-inf` and `nan`. A NaN with other bits
+//! than `f32::NAN` or `f64::NAN` has its bits in parentheses: `nan(0x7fc00001)`.
 
 ghost use Rattle.std.specs.Prelude.{◌≡◌, ℕ, ◌^◌, ◌%◌, ◌<◌, ◌++◌, List, IfOk, IfSome, IfNone};
 ghost use Rattle.std.specs.Prelude.{MatchResult, true, false};
@@ -22,8 +22,8 @@ use std::num::{
     f32_from_bits_with_nan, f32_to_bits_with_nan, f64_from_bits_with_nan, f64_to_bits_with_nan,
 };
 
-/// Prints the float of the type with these bits, of which those above its width are left out, as a
-/// text that [`read_float`] reads as the same bits.
+/// Prints the float of the type with these bits as a text that [`read_float`] reads as the same
+/// bits. Bits above the type's width are ignored.
 pub fn show_float<W: Write>(float: Float, bits: u64, f: &mut Formatter<W>) -> fmt::Result
     ensures { ShowsFloat (format_of float) (bits % 256 ^ float_size float)
         W.write_str_gives f.old result f.new }
@@ -60,13 +60,13 @@ fn show_f64<W: Write>(bits: u64, f: &mut Formatter<W>) -> fmt::Result
     write!(f, "nan(0x{bits:x})")
 }
 
-/// Takes blanks and then the text of a float of the type, and returns its bits: those of the float
-/// that is nearest to a number, or those in parentheses after `nan`.
+/// Takes blanks and then the text of a float of the type, and returns its bits. A number gives the
+/// nearest float, and `nan` may give its bits in parentheses.
 ///
 /// # Errors
 ///
-/// Stops at the front of `rest` if no float is next, or at the bits after `nan(` if these aren't
-/// hexadecimal digits after `0x`, and then `)`.
+/// Stops at the first byte of `rest` if no float is next. Stops at the bits after `nan(` if these
+/// aren't `0x`, hexadecimal digits and `)`.
 pub fn read_float(rest: &mut &[u8], float: Float) -> Result<u64, Stop<'static>>
     ensures spelled { IfOk result (λ bits.
         TakesPhrase (SpellsFloat (format_of float) bits) rest.old.now rest.new.now) }
@@ -103,8 +103,8 @@ fn are_nan(float: Float, bits: u64) -> bool
     }
 }
 
-/// Returns the bits of the float of the type that is nearest to the number that a word spells, or
-/// `None` if it spells none.
+/// Returns the bits of the float of the type that is nearest to a word's number, or `None` if the
+/// word denotes no number.
 fn nearest(float: Float, word: &[u8]) -> Option<u64>
     ensures found { IfSome result (λ bits. IsFloatWord (format_of float) bits word.now) }
     ensures none { IfNone result ((bits : ℕ)
@@ -125,8 +125,8 @@ fn nearest(float: Float, word: &[u8]) -> Option<u64>
     }
 }
 
-/// Takes `0x`, hexadecimal digits and `)`, and returns the number that the digits spell. Stops at
-/// the front of `rest` if these aren't next, or the number is no `u64`.
+/// Takes `0x`, hexadecimal digits and `)`, and returns the number that the digits denote. Stops at
+/// the first byte of `rest` if these aren't next, or if the number does not fit `u64`.
 fn read_code(rest: &mut &[u8]) -> Result<u64, Stop<'static>>
     ensures spelled { IfOk result (λ n.
         TakesPhrase (Then (IsHexadecimal n) (IsSign 41)) rest.old.now rest.new.now) }

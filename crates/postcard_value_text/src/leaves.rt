@@ -61,7 +61,7 @@ fn read_bool(rest: &mut &[u8]) -> Result<bool, Stop<'static>>
     }
 }
 
-/// Returns the `bool` that a word spells, or `None` if it is neither `true` nor `false`.
+/// Returns the `bool` that a word denotes, or `None` if it is neither `true` nor `false`.
 fn truth_of(word: &[u8]) -> Option<bool>
     ensures found { IfSome result (λ x. IsTruth x word.now) }
     ensures none { IfNone result ((x : Bool) → IsTruth x word.now → ⊥) }
@@ -144,7 +144,7 @@ pub fn show_leaf<W: Write>(leaf: Leaf, value: &Value, f: &mut Formatter<W>) -> f
     }
 }
 
-/// Prints the number of the type with these bits, of which those above its width are left out.
+/// Prints the number of the type with these bits. Bits above the type's width are ignored.
 fn show_bits<W: Write>(integer: Integer, bits: u128, f: &mut Formatter<W>) -> fmt::Result
     ensures { WritesOnOk W.write_str_gives f.old result
         (bits_text (is_signed integer) (size_of integer) (bits % 256 ^ size_of integer)) f.new }
@@ -159,7 +159,8 @@ fn show_bits<W: Write>(integer: Integer, bits: u128, f: &mut Formatter<W>) -> fm
     }
 }
 
-/// Prints a text between double quotes, with escapes. A text without escapes is written as it is.
+/// Prints a string between double quotes, with escapes. A string that needs no escapes is written
+/// in one piece.
 fn show_text<W: Write>(text: &str, f: &mut Formatter<W>) -> fmt::Result
     ensures { DisplaysOnOk W.write_str_gives f.old result (debug_str text.now) f.new }
 {
@@ -171,7 +172,7 @@ fn show_text<W: Write>(text: &str, f: &mut Formatter<W>) -> fmt::Result
     f.write_str("\"")
 }
 
-/// Returns whether a text is characters alone that stand for themselves between double quotes.
+/// Returns whether a string needs no escapes between double quotes.
 fn is_plain(text: &[u8]) -> bool
     ensures { result ≡ list_all stands_for_itself text.now }
 {

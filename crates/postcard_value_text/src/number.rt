@@ -1,6 +1,6 @@
-//! Numbers of the integer types, as texts: integer literals of Rust ([`number_of`]), with a `+`
-//! before them or not, and for a type with a sign also a `-`: `42`, `+42`, `1_000`, `0x2a`,
-//! `-0x2A`, `0b10_1010`, `0o52`.
+//! Numbers of the integer types, as texts: integer literals of Rust ([`number_of`]). A `+` may
+//! stand before them, and a `-` if the type is signed. So `42`, `+42`, `1_000`, `0x2a`, `-0x2A`,
+//! `0b10_1010` and `0o52` are numbers.
 
 ghost use Rattle.std.specs.Prelude.{◌≡◌, ℕ, ℤ, ◌^◌, ◌<◌, List, length, FitsSigned, IfOk, IfErr};
 ghost use Rattle.std.specs.Prelude.{IfSome, IfNone, MatchResult, true, false};
@@ -15,8 +15,8 @@ use postcard_schema::{Integer, Leaf};
 use postcard_schema_text::literal::number_of;
 use postcard_value::numbers::{are_bits, bits_of};
 
-/// Takes blanks and then a number of the type, and returns its bits. Stops at the front of `rest`
-/// if no number of the type is next.
+/// Takes blanks and then a number of the type, and returns its bits. Stops at the first byte of
+/// `rest` if no number of the type is next.
 pub fn read_bits(rest: &mut &[u8], integer: Integer) -> Result<u128, Stop<'static>>
     ensures spelled { IfOk result (λ n. TakesPhrase (SpellsBits (is_signed integer) integer n)
         rest.old.now rest.new.now) }
@@ -34,7 +34,7 @@ pub fn read_bits(rest: &mut &[u8], integer: Integer) -> Result<u128, Stop<'stati
     }
 }
 
-/// Returns the bits of the number of the type that a word spells, or `None` if it spells none.
+/// Returns the bits of the number of the type that a word denotes, or `None` if it denotes none.
 fn bits_in(word: &[u8], integer: Integer) -> Option<u128>
     ensures found { IfSome result (λ n. HasBits (is_signed integer) integer n word.now) }
     ensures none { IfNone result ((n : ℕ)
@@ -67,8 +67,8 @@ fn unsigned_bits(word: &[u8], integer: Integer) -> Option<u128>
     }
 }
 
-/// Returns the number that a word spells, which may begin with `-` or `+`, or `None` if it spells
-/// none that `i128` holds.
+/// Returns the number that a word denotes, or `None` if it denotes none that fits `i128`. The word
+/// may begin with `-` or `+`.
 fn signed(word: &[u8]) -> Option<i128>
     ensures found { IfSome result (λ z. IsSigned z word.now) }
     ensures none { IfNone result ((z : ℤ) → FitsSigned w128 z → IsSigned z word.now → ⊥) }
@@ -85,7 +85,7 @@ fn signed(word: &[u8]) -> Option<i128>
     }
 }
 
-/// Returns a word without the `+` at its front, if it has one.
+/// Returns a word without its leading `+`, if it has one.
 fn after_plus(word: &[u8]) -> &[u8]
     ensures { result.now ≡ without_leading_plus word.now }
 {
@@ -95,8 +95,8 @@ fn after_plus(word: &[u8]) -> &[u8]
     }
 }
 
-/// Returns the number that a word without a sign spells, or `None` if it spells none that `u128`
-/// holds.
+/// Returns the number that a word without a sign denotes, or `None` if it denotes none that fits
+/// `u128`.
 fn magnitude(word: &[u8]) -> Option<u128>
     ensures found { IfSome result (λ n. IsLiteral n word.now) }
     ensures none { IfNone result ((n : ℕ) → n < 2 ^ 128 → IsLiteral n word.now → ⊥) }

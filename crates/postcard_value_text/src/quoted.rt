@@ -14,9 +14,9 @@ use postcard_schema_text::scan::take;
 use std::alloc::Global;
 
 /// Takes blanks, and then a text between two bytes `quote`, which may have the escapes `\n`, `\r`,
-/// `\t`, `\0`, `\\`, `\'`, `\"` and `\u{..}`. Returns the text with the escapes replaced. Where the
-/// first `quote` should be, a value of `leaf` is expected. Stops where the text stops being one,
-/// and with `Memory` if an allocation fails.
+/// `\t`, `\0`, `\\`, `\'`, `\"` and `\u{..}`. Returns the text with the escapes replaced. If the
+/// first `quote` is missing, the stop says that a value of `leaf` is expected. Stops where the text
+/// stops being one, and with `Memory` if an allocation fails.
 pub fn take_quoted(
     alloc: Global,
     rest: &mut &[u8],
@@ -67,7 +67,7 @@ fn take_byte(rest: &mut &[u8], expected: Expected<'static>) -> Result<u8, Stop<'
     }
 }
 
-/// Takes an escape after its `\`, and adds the character that it stands for to `bytes`. Stops as
+/// Takes an escape after its `\`, and appends the character that it stands for to `bytes`. Stops as
 /// [`take_quoted`] does.
 fn take_escape(rest: &mut &[u8], bytes: &mut Vec<u8>) -> Result<(), Stop<'static>>
     ensures taken { OnOk result ((held : List ℕ) × (bytes.new.items ≡ bytes.old.items ++ held)
@@ -106,8 +106,8 @@ fn short_escape(letter: u8) -> Option<u8>
 }
 
 /// Takes `{`, one to six hexadecimal digits and `}`, and returns the character with this code.
-/// Stops at the front of `rest` if something else is next, and at the end of the text if it ends
-/// before the `}`.
+/// Stops at the first byte of `rest` if something else is next, and at the end of the text if it
+/// ends before the `}`.
 fn take_code(rest: &mut &[u8]) -> Result<char, Stop<'static>>
     ensures code { IfOk result (λ c. TakesPhrase (IsCode c) rest.old.now rest.new.now) }
     ensures accepted { (c : ℕ) (after : List ℕ) → TakesPhrase (IsCode c) rest.old.now after
@@ -131,8 +131,8 @@ fn take_code(rest: &mut &[u8]) -> Result<char, Stop<'static>>
     Err(Stop::here(start, Expected::Code))
 }
 
-/// Returns the character of a code of `count` digits, or stops at the front of `start` if there is
-/// no digit, or no such character.
+/// Returns the character of a code of `count` digits. Stops at the first byte of `start` if `count`
+/// is 0 or no character has the code.
 fn character(code: u32, count: usize, start: &[u8]) -> Result<char, Stop<'static>>
     ensures found { IfOk result (λ c. (0 < count) × IsScalar code × (c ≡ code)) }
     ensures refused { IfErr result (λ stop. stop ≡ Stop.At (length start.now) Expected.Code) }
@@ -147,8 +147,9 @@ fn character(code: u32, count: usize, start: &[u8]) -> Result<char, Stop<'static
     }
 }
 
-/// Returns the bytes of hexadecimal digits of either case, two for each byte. Stops at the front of
-/// `start` if a digit is missing or isn't hexadecimal, and with `Memory` if an allocation fails.
+/// Returns the bytes of hexadecimal digits of either case, two for each byte. Stops at the first
+/// byte of `start` if a digit is missing or isn't hexadecimal, and with `Memory` if an allocation
+/// fails.
 pub fn bytes_of(alloc: Global, digits: &[u8], start: &[u8]) -> Result<Vec<u8>, Stop<'static>>
     ensures held { IfOk result (λ held. AreDigitsOf held.items digits.now) }
     ensures refused { IfErr result (λ stop. (stop ≡ Stop.Memory)
@@ -168,8 +169,8 @@ pub fn bytes_of(alloc: Global, digits: &[u8], start: &[u8]) -> Result<Vec<u8>, S
     Ok(bytes)
 }
 
-/// Takes the next hexadecimal digit and returns its value, which is below 16, or stops at the front
-/// of `start` if there is none.
+/// Takes the next hexadecimal digit and returns its value, which is below 16. Stops at the first
+/// byte of `start` if there is none.
 fn take_digit(rest: &mut &[u8], start: &[u8]) -> Result<u8, Stop<'static>>
     ensures taken { IfOk result (λ digit. (byte : ℕ) × (rest.old.now ≡ byte ∷ rest.new.now)
         × (digit_value byte < 16) × (digit ≡ digit_value byte)) }
@@ -186,8 +187,8 @@ fn take_digit(rest: &mut &[u8], start: &[u8]) -> Result<u8, Stop<'static>>
     }
 }
 
-/// Returns the value of a hexadecimal digit, which is below 16, or stops at the front of `start`,
-/// where this is expected.
+/// Returns the value of a hexadecimal digit, which is below 16. Stops at the first byte of `start`
+/// if the byte is no such digit.
 fn digit_of(byte: u8, start: &[u8], expected: Expected<'static>) -> Result<u8, Stop<'static>>
     ensures digit { IfOk result (λ digit. (digit < 16) × (digit ≡ digit_value byte)) }
     ensures refused { IfErr result (λ stop. (stop ≡ Stop.At (length start.now) expected.entry)
@@ -209,7 +210,7 @@ fn push(bytes: &mut Vec<u8>, byte: u8) -> Result<(), Stop<'static>>
     }
 }
 
-/// Adds a character's UTF-8 to the end, or stops with `Memory`.
+/// Appends a character's UTF-8, or stops with `Memory`.
 fn push_character(bytes: &mut Vec<u8>, c: char) -> Result<(), Stop<'static>>
     ensures added { OnOk result (bytes.new.items ≡ bytes.old.items ++ encode_utf8 c) }
     ensures only_out_of_memory { IfErr result (λ stop. stop ≡ Stop.Memory) }

@@ -1,5 +1,5 @@
-//! Reading a value from its text: [`read_text`]. A function with a [`Stop`] stops where the text
-//! isn't what it takes, and with `Memory` if an allocation fails.
+//! Reading a value from its text: [`read_text`]. A function that returns a [`Stop`] stops where the
+//! text isn't what it takes, and with `Memory` if an allocation fails.
 
 ghost use Rattle.std.specs.Prelude.{◌≡◌, ◌≢◌, ℕ, ◌<◌, [], ◌∷◌, ◌++◌, length, get_or};
 ghost use Rattle.std.specs.Prelude.{IfOk, IfErr, OnOk, MatchResult, string_bytes};
@@ -22,13 +22,13 @@ use postcard_schema_text::scan::{skip_blanks, take, take_word};
 use postcard_value::value::Value;
 use std::alloc::Global;
 
-/// Reads the value of the schema that the text spells: each name, number, text and bracket, in
+/// Reads the value of the schema that the text denotes: each name, number, string and bracket, in
 /// order. White space of ASCII may come before any word or sign and at the end.
 ///
 /// # Errors
 ///
-/// Fails with `NotAValue`, the place and what is expected there if the text is no value of the
-/// schema, and with `OutOfMemory` if an allocation fails.
+/// Fails with `NotAValue` if the text is no value of the schema. The error has the place and what
+/// is expected there. Fails with `OutOfMemory` if an allocation fails.
 pub fn read_text<'a>(alloc: Global, schema: &'a Schema, text: &str) -> Result<Value, TextError<'a>>
     ensures value { IfOk result (λ v. reads (type_of schema.now) (tree v)) }
     ensures spelled { IfOk result (λ v. SpellsValue schema.now v text.now) }

@@ -17,8 +17,8 @@ use std::fmt::{Display, Formatter, Write};
 
 /// A value together with its schema, which is printed as a text on one line.
 ///
-/// Printing fails if the value has another form than the schema, or if the writer fails. Only the
-/// count of an array isn't checked.
+/// Printing fails if the value has another form than the schema, or if the writer fails. The count
+/// of an array is not checked.
 #[derive(Clone, Copy)]
 pub struct Shown<'a> {
     /// The type of the value, with the names of fields and variants.

@@ -1,4 +1,4 @@
-//! Signs and names that a text begins with: what is around values.
+//! Taking the signs and names around values from the start of a text.
 
 ghost use Rattle.std.specs.Prelude.{◌≡◌, ◌≢◌, ℕ, ◌<◌, ◌++◌, ◌∷◌, true, false, List, length};
 ghost use Rattle.std.specs.Prelude.{IfSome, IfNone, MatchResult, OnOk};
@@ -10,7 +10,8 @@ use crate::error::Stop;
 use crate::expected::Expected;
 use postcard_schema_text::scan::{skip_blanks, take, take_word};
 
-/// Takes blanks and then this byte, or stops at what follows the blanks, where this is expected.
+/// Takes blanks and then this byte. If another byte follows the blanks, stops there with
+/// `expected`.
 pub fn expect<'a>(rest: &mut &[u8], byte: u8, expected: Expected<'a>) -> Result<(), Stop<'a>>
     ensures taken { OnOk result (TakesPhrase (IsSign byte) rest.old.now rest.new.now) }
     ensures accepted { (after : List ℕ) → is_ascii_whitespace byte ≡ false
@@ -84,8 +85,8 @@ fn take_quoted_name(rest: &mut &[u8], name: &[u8]) -> bool
     }
 }
 
-/// Returns what follows `name` and a double quote at the front of a text, or `None` if these aren't
-/// there.
+/// Returns the text after `name` and a double quote, or `None` if the text doesn't begin with
+/// these.
 fn after_name<'a>(text: &'a [u8], name: &[u8]) -> Option<&'a [u8]>
     ensures found { IfSome result (λ after. text.now ≡ name.now ++ 34 ∷ after.now) }
     ensures none { IfNone result ((after : List ℕ) → text.now ≡ name.now ++ 34 ∷ after → ⊥) }
@@ -110,7 +111,8 @@ pub fn close_parts(rest: &mut &[u8], are_none: bool, closing: u8) -> Result<(), 
     expect(rest, closing, Expected::Sign(closing))
 }
 
-/// Takes the `,` before a part, or nothing before the first one. Stops where this is expected.
+/// Takes the `,` before a part, or nothing before the first one. If the `,` is missing, stops there
+/// with `expected`.
 pub fn separate<'a>(
     rest: &mut &[u8],
     is_first: bool,

@@ -21,8 +21,8 @@ pub extern "C" fn widened(a: i8, b: i16, of_16: &mut u16) -> u32 {
     i32::from(a).cast_unsigned() ^ (i32::from(b).cast_unsigned() << 1)
 }
 
-/// Returns numbers of each width as one of 128 bits with its sign: the lower half of their
-/// exclusive or, and by the pointer the higher one.
+/// Widens numbers of each width to 128 bits with their signs, and joins them by exclusive or.
+/// Returns the lower half, and writes the higher half to `high`.
 #[unsafe(no_mangle)]
 pub extern "C" fn widened_128(a: i8, b: i16, c: i32, d: i64, high: &mut u64) -> u64 {
     let wide = i128::from(a) ^ (i128::from(b) << 1) ^ (i128::from(c) << 2) ^ (i128::from(d) << 3);

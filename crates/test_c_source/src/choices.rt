@@ -98,7 +98,7 @@ pub extern "C" fn weights(n: u32, a: u64, b: u8) -> u64 {
     weight(shape_of(n, a, b))
 }
 
-/// Returns what two options and their matches in one another give.
+/// Returns a number made of two options by nested matches.
 #[unsafe(no_mangle)]
 pub extern "C" fn options(n: u32, a: u64, b: u64) -> u64 {
     let first = if n & 1 == 0 { Some(a) } else { None };
@@ -128,7 +128,8 @@ fn eighth(n: u64) -> Result<u64, Color> {
     half(half(half(n)?)?)
 }
 
-/// Returns the eighth of a number, or where a half had a rest what the error says.
+/// Returns the eighth of a number, by halving it three times. If a half isn't whole, returns a
+/// number for the error.
 #[unsafe(no_mangle)]
 pub extern "C" fn eighths(n: u64) -> u64 {
     match eighth(n) {
@@ -138,7 +139,7 @@ pub extern "C" fn eighths(n: u64) -> u64 {
     }
 }
 
-/// Returns a struct's parts after they were exchanged: each is assigned what the other was.
+/// Returns the parts of a struct after they were exchanged a number of times.
 #[unsafe(no_mangle)]
 pub extern "C" fn exchanged(a: u64, b: u8, times: u32) -> u64 {
     let mut pair = Pair {

@@ -1,8 +1,8 @@
-//! Functions for the tests of `tools/c-source`: each construct of the MIR that the translator knows,
-//! as exports whose results the compiled library and the translated source must share.
+//! Functions for the tests of `tools/c-source`. They use each construct of the MIR that the
+//! translator knows. The compiled library and the translated source must return the same results.
 //!
-//! The contracts say what safety asks for, and nothing more: what a function returns has no
-//! meaning. `c/constructs.h` declares the exports, and `c/constructs.c` compares them.
+//! The contracts say what safety needs, and nothing more. The results have no meaning of their own.
+//! `c/constructs.h` declares the exports, and `c/constructs.c` compares them.
 //!
 //! In reading order: `unsigned`, `signed`, `wide`, `casts`, `choices`, `loops`, `generic`, `memory`,
 //! `order`.

@@ -1,4 +1,4 @@
-//! Loops in one another, left from within by `break`, `continue` and `return`.
+//! Nested loops that are left by `break`, `continue` and `return`.
 
 /// Returns the place of the first byte that is not below a limit and stands before a zero, or the
 /// length.
@@ -15,8 +15,8 @@ pub extern "C" fn first_large(bytes: &[u8], limit: u8) -> u64 {
     bytes.len() as u64
 }
 
-/// Returns the number of pairs of bytes that are equal, by loops in one another, of which the outer
-/// one is left and gone on with from the inner one.
+/// Returns the number of pairs of equal bytes, at most `most`, by nested loops. The inner loop
+/// breaks and continues the outer one.
 #[unsafe(no_mangle)]
 pub extern "C" fn equal_pairs(bytes: &[u8], most: u64) -> u64 {
     let mut count: u64 = 0;
@@ -37,8 +37,8 @@ pub extern "C" fn equal_pairs(bytes: &[u8], most: u64) -> u64 {
     count
 }
 
-/// Returns a number made of bytes by kinds, with a choice of several cases within a loop that the
-/// cases leave or go on with.
+/// Returns a number made of bytes, by a `match` within a loop whose arms break or continue the
+/// loop.
 #[unsafe(no_mangle)]
 pub extern "C" fn kinds(bytes: &[u8]) -> u64 {
     let mut sum: u64 = 1;
@@ -64,7 +64,8 @@ pub extern "C" fn kinds(bytes: &[u8]) -> u64 {
     sum ^ (u64::from(last) << 56)
 }
 
-/// Returns two numbers of which each loop takes the other's last value.
+/// Returns a number made of two variables, each of which takes the other's last value in each turn
+/// of a loop.
 #[unsafe(no_mangle)]
 pub extern "C" fn turns(count: u8, a: u64, b: u64) -> u64 {
     let mut x = a;

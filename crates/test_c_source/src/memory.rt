@@ -1,4 +1,4 @@
-//! Slices, arrays behind references, tables, and vectors of bytes.
+//! Slices, arrays by reference, tables, and vectors of bytes.
 
 ghost use Rattle.std.specs.Prelude.{◌≤◌, length};
 
@@ -20,7 +20,7 @@ pub extern "C" fn tables(place: u64) -> u64 {
     u64::from(primes[at + 4]) ^ large[at] ^ (u64::from(flags[at]) << 50)
 }
 
-/// Copies some bytes to others, as many as both have, and returns how many.
+/// Copies bytes from one slice to another, up to the length of the shorter one. Returns how many.
 #[unsafe(no_mangle)]
 pub extern "C" fn copied(from: &[u8], to: &mut [u8]) -> u64 {
     let count = from.len().min(to.len());
@@ -57,7 +57,7 @@ fn turn(row: &mut [u8; 8]) {
     }
 }
 
-/// Turns a number's bytes round, behind a reference to an array, and returns the number.
+/// Reverses the bytes of a number, in an array by reference, and returns the number.
 #[unsafe(no_mangle)]
 pub extern "C" fn turned(n: u64) -> u64 {
     let mut row = n.to_le_bytes();
@@ -85,8 +85,8 @@ fn zeros<const N: usize>(bytes: &[u8], byte: u8) -> u64
         .to_bitmask()
 }
 
-/// Returns which of the first bytes are zero, and which are 7, by vectors of several lengths, and 0
-/// of too few bytes.
+/// Returns which of the first bytes are zero, and which are 7, by vectors of several lengths.
+/// Returns 0 for too few bytes.
 #[unsafe(no_mangle)]
 pub extern "C" fn lanes(bytes: &[u8]) -> u64 {
     if bytes.len() < 64 {

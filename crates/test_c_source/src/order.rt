@@ -23,7 +23,7 @@ fn turn_round(two: &mut Two) {
     };
 }
 
-/// Returns a struct's fields after each was assigned the other, by a local and by a reference.
+/// Returns the fields of a struct after they were swapped, by a local and by a reference.
 #[unsafe(no_mangle)]
 pub extern "C" fn crossed(a: u64, b: u64) -> u64 {
     let mut two = Two { left: a, right: b };
@@ -76,7 +76,8 @@ fn add_to(n: &mut u64, more: u64) -> u64 {
     before >> 1
 }
 
-/// Returns what calls that change a number returned, joined with what it was between them.
+/// Calls functions that change a number. Returns their results, joined with the number between the
+/// calls.
 #[unsafe(no_mangle)]
 pub extern "C" fn changed(a: u64, b: u64) -> u64 {
     let mut n = a;

@@ -1,4 +1,5 @@
-//! One change of a type at a time: what is found if the new type reads, and if the old one does.
+//! One change of a type at a time, in both directions: the new type reads old messages, and the old
+//! type reads new ones.
 
 use crate::rows::{Row, check};
 use postcard_compat::Verdict::{Differs, Front, Misread, Refuses, Same};

@@ -4,7 +4,7 @@ use crate::helpers::{flat, same};
 use postcard_compat::{both, serves, serves_front};
 use std::process::Abort;
 
-/// What is found of an old and a new type, the strongest first.
+/// The relation that is recognized between an old and a new type, the strongest first.
 #[derive(Clone, Copy, Debug, PartialEq, Eq)]
 enum Found {
     /// Each type serves the other.
@@ -18,7 +18,7 @@ enum Found {
     Nothing,
 }
 
-/// An old type, a new type, and what is found of them.
+/// An old type, a new type, and the relation that is recognized between them.
 type Row<'a> = (&'a str, &'a str, Found);
 
 const PAIRS: [Row; 50] = [

@@ -6,11 +6,12 @@ use postcard_schema::Schema;
 use postcard_schema_text::parse;
 use std::process::Abort;
 
-/// Two types, and what is found if the second reads the first, and if the first reads the second: the
-/// verdict, and the first difference as it is printed. It is empty if there is none.
+/// Two types, and a result for each direction: first the second type reads the first, and then the
+/// other way round. A result is the verdict and the first difference as it is printed, which is
+/// empty if there is none.
 pub type Row<'a> = (&'a str, &'a str, (Verdict, &'a str), (Verdict, &'a str));
 
-/// Asserts what is found of each row.
+/// Asserts the results of each row.
 pub fn check(rt: &(impl Abort + AllocGlobal), rows: &[Row<'_>]) {
     for (old, new, forth, back) in rows {
         let first = parse(rt.alloc(), old).expect(rt, old);
@@ -20,7 +21,7 @@ pub fn check(rt: &(impl Abort + AllocGlobal), rows: &[Row<'_>]) {
     }
 }
 
-/// Asserts what is found of two types.
+/// Asserts the result for two types in one direction.
 fn finds(
     rt: &(impl Abort + AllocGlobal),
     old: &Schema,

@@ -46,9 +46,9 @@ fn another_initial_value(rt: HostRuntime) {
     assert!(rt; got == 0x29b1);
 }
 
-/// The checksum 31c3 of the text comes lowest byte first, and CRC-16/XMODEM is not reflected. So a
-/// change within 13 bits in a row, across the end of the message, is another message with its own
-/// checksum.
+/// The checksum 31c3 of the message comes lowest byte first, and CRC-16/XMODEM is not reflected. So
+/// a change within 13 bits in a row, across the end of the message, can give another message with
+/// its own checksum.
 #[test]
 fn a_burst_across_the_end_passes_unreflected(rt: HostRuntime) {
     let crc: Crc<u16> = Crc::new(&CRC_16_XMODEM);
@@ -56,7 +56,7 @@ fn a_burst_across_the_end_passes_unreflected(rt: HostRuntime) {
     same(&rt, &crc, b"123456788", 0x21e2);
 }
 
-/// Asserts that the checksum of a text of 43 bytes, by eight tables, is `want`.
+/// Asserts that the checksum of a string of 43 bytes, by eight tables, is `want`.
 fn by_eights<W: Width>(rt: &impl Abort, crc: &Crc<W, Slice8<W>>, want: W) {
     let got = crc
         .checksum(b"The quick brown fox jumps over the lazy dog")

@@ -21,7 +21,7 @@ fn same(rt: &impl Abort, got: &[u8], want: &[u8]) {
     assert!(rt; *got == *want);
 }
 
-/// Asserts that a number is another.
+/// Asserts that two numbers are equal.
 fn equal(rt: &impl Abort, got: u64, want: u64) {
     assert!(rt; got == want);
 }
@@ -35,7 +35,7 @@ fn refused(rt: &impl Abort, got: Result<u8, Error>, want: Error) {
     assert!(rt; as_wanted);
 }
 
-/// The frames of FORMAT.md.
+/// Tests the frames of `docs/FORMAT.md`.
 #[test]
 fn written(rt: HostRuntime) -> Result<(), Fail> {
     let maxim: Crc<u8> = Crc::new(&CRC_8_MAXIM_DOW);
@@ -65,7 +65,7 @@ fn written(rt: HostRuntime) -> Result<(), Fail> {
     Ok(())
 }
 
-/// The example of CALLING.md.
+/// Tests the example of `docs/CALLING.md`.
 #[test]
 fn example(rt: HostRuntime) -> Result<(), Fail> {
     let crc: Crc<u32> = Crc::new(&CRC_32_ISCSI);
@@ -137,7 +137,7 @@ fn an_unreflected_burst_passes(rt: HostRuntime) -> Result<(), Fail> {
     Ok(())
 }
 
-/// How many of the bursts of up to 8 bits pass in a frame of eight bytes.
+/// Returns how many of the bursts of up to 8 bits pass in a frame of eight bytes.
 fn passing_8(alloc: Global, crc: &Crc<u8>, message: [u8; 7]) -> Result<u64, Error> {
     let mut frame = [0; 8];
     let _ = to_slice(&message, &mut frame, crc.digest())?;
@@ -155,7 +155,7 @@ fn passing_8(alloc: Global, crc: &Crc<u8>, message: [u8; 7]) -> Result<u64, Erro
     Ok(passing)
 }
 
-/// How many of the bursts of up to 16 bits pass in a frame of eight bytes.
+/// Returns how many of the bursts of up to 16 bits pass in a frame of eight bytes.
 fn passing_16(alloc: Global, crc: &Crc<u16>, message: [u8; 6]) -> Result<u64, Error> {
     let mut frame = [0; 8];
     let _ = to_slice(&message, &mut frame, crc.digest())?;
@@ -173,14 +173,15 @@ fn passing_16(alloc: Global, crc: &Crc<u16>, message: [u8; 6]) -> Result<u64, Er
     Ok(passing)
 }
 
-/// The number after `state` in a sequence by which bursts are sampled (Marsaglia 2003, xorshift).
+/// Returns the number after `state` in a sequence by which bursts are sampled (Marsaglia 2003,
+/// xorshift).
 fn next(state: u64) -> u64 {
     let left = state ^ (state << 13);
     let right = left ^ (left >> 7);
     right ^ (right << 17)
 }
 
-/// How many of 64,000 bursts of up to 32 bits pass in a frame of eight bytes.
+/// Returns how many of 64,000 bursts of up to 32 bits pass in a frame of eight bytes.
 fn passing_32(alloc: Global, crc: &Crc<u32>, message: [u8; 4]) -> Result<u64, Error> {
     let mut frame = [0; 8];
     let _ = to_slice(&message, &mut frame, crc.digest())?;
@@ -200,7 +201,7 @@ fn passing_32(alloc: Global, crc: &Crc<u32>, message: [u8; 4]) -> Result<u64, Er
     Ok(passing)
 }
 
-/// How many of 64,000 bursts of up to 64 bits pass in a frame of sixteen bytes.
+/// Returns how many of 64,000 bursts of up to 64 bits pass in a frame of sixteen bytes.
 fn passing_64(alloc: Global, crc: &Crc<u64>, message: [u8; 8]) -> Result<u64, Error> {
     let mut frame = [0; 16];
     let _ = to_slice(&message, &mut frame, crc.digest())?;
@@ -227,8 +228,8 @@ fn with_zeros(number: u128) -> [u8; 20] {
     bytes
 }
 
-/// How many of 46,000 bursts of up to 82 bits pass in the first sixteen bytes of a frame of twenty, of
-/// whose checksum the last bytes are zero.
+/// Returns how many of 46,000 bursts of up to 82 bits pass in the first sixteen bytes of a frame of
+/// twenty. The last bytes of the frame's checksum are zero.
 fn passing_82(alloc: Global, crc: &Crc<u128>, message: [u8; 4]) -> Result<u64, Error> {
     let mut frame = [0; 20];
     let _ = to_slice(&message, &mut frame, crc.digest())?;
@@ -267,8 +268,8 @@ fn sampled_bursts_are_refused(rt: HostRuntime) -> Result<(), Fail> {
     Ok(())
 }
 
-/// Bits in a row are those of the bytes' number, lowest byte first, so each burst is a pattern that
-/// is shifted.
+/// Tests bursts at each place of a frame. The bytes of the frame, lowest first, are read as one
+/// number, so each burst is a shifted pattern.
 #[test]
 fn every_burst_is_refused(rt: HostRuntime) -> Result<(), Fail> {
     let message = [1, 0, 0xff, 0x5a, 7, 0x80];

@@ -1,5 +1,5 @@
-//! Tests of the bytes around those that are written: those before them in a vector, and those after
-//! them in a buffer.
+//! Tests of the bytes around an encoding: those before it in a vector, and those after it in a
+//! buffer.
 
 use crate::OLD;
 use crate::asserts::{same, same_bytes};
@@ -7,7 +7,7 @@ use postcard::ser_flavors::{Flavor, Slice};
 use postcard::{Serialize, to_extend, to_slice};
 use std::process::Abort;
 
-/// Returns the vector with the value's bytes after those that it held.
+/// Returns the vector with the value's encoding appended.
 fn extended<T: Serialize>(rt: &impl Abort, value: &T, held: Vec<u8>) -> Vec<u8> {
     to_extend(value, held).expect(rt, "a vector grows")
 }

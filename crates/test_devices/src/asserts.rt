@@ -1,5 +1,5 @@
-//! Assertions as functions, since each macro that asserts is proved where it stands, and the calls
-//! that read from readers, with what they have to return.
+//! Assertions, also on the calls that read from readers. They are functions, since each macro that
+//! asserts is proved where it stands.
 
 use postcard::de_flavors::io::io::IOReader;
 use postcard::de_flavors::{Flavor, Reader};

@@ -73,7 +73,7 @@ fn of_a_source(rt: HostRuntime) {
     takes_each_way(&rt, Plain::new(interrupted(&[1, 2, 3, 4, 5])));
 }
 
-/// The encoding of 1 as a `u8`, 10 as a `u32` and the text "Hello!".
+/// The encoding of 1 as a `u8`, 10 as a `u32` and the string "Hello!".
 const TUPLE: [u8; 9] = [0x01, 0x0A, 0x06, 0x48, 0x65, 0x6C, 0x6C, 0x6F, 0x21];
 
 #[test]

@@ -1,5 +1,5 @@
 //! Tests of values that are written and read through readers and writers that give few bytes, fail
-//! or are interrupted, and through the flavors, with the bytes around what is written.
+//! or are interrupted. Other tests use the flavors, and check the bytes around an encoding.
 #![tactic(auto)]
 
 #[cfg(test)]

@@ -1,5 +1,5 @@
-//! Tests of reading values from readers: steady ones, in pieces of several lengths, the same that
-//! don't promise to be steady, and one that fails.
+//! Tests of reading values from readers. Steady readers give pieces of several lengths. The same
+//! readers are used without the promise to be steady. One reader fails.
 
 use crate::OLD;
 use crate::asserts::{assert_read, assert_refused, assert_scratch, same, same_bytes};
@@ -10,16 +10,16 @@ use std::alloc::AllocGlobal;
 use std::process::Abort;
 use test_support::devices::readers::{FailingReader, Pieces};
 
-/// The texts "ab" and "c".
+/// The strings "ab" and "c".
 const TEXTS: [u8; 5] = [0x02, 0x61, 0x62, 0x01, 0x63];
 
-/// The text "ab", the character 'c', which needs scratch only for a while, and the text "d".
+/// The string "ab", the character 'c', which needs scratch only for a while, and the string "d".
 const MIXED: [u8; 7] = [0x02, 0x61, 0x62, 0x01, 0x63, 0x01, 0x64];
 
-/// The text "z", and a byte after it.
+/// The string "z", and a byte after it.
 const LETTER: [u8; 3] = [0x01, 0x7A, 0x99];
 
-/// The text "Hi!", the number 300 as a `u16`, the pair of 5 as a `u8` and the text "z", and two
+/// The string "Hi!", the number 300 as a `u16`, the pair of 5 as a `u8` and the string "z", and two
 /// bytes after them.
 const RECORDS: [u8; 11] = [
     0x03, 0x48, 0x69, 0x21, 0xAC, 0x02, 0x05, 0x01, 0x7A, 0x99, 0x98,
@@ -55,7 +55,7 @@ impl Over for Plain<Pieces<'static>> {
     }
 }
 
-/// Asserts that just these bytes are left in the reader, which gives them with no scratch.
+/// Asserts that the reader has just these bytes left, and gives them with no scratch.
 fn assert_unread<R: Reader>(rt: &impl Abort, reader: R, unread: &[u8]) {
     let mut rest = IOReader::new(reader, &mut []);
     for byte in unread {
@@ -64,7 +64,8 @@ fn assert_unread<R: Reader>(rt: &impl Abort, reader: R, unread: &[u8]) {
     same(rt, rest.pop(), Err(Error::DeserializeUnexpectedEnd));
 }
 
-/// Reads two texts that borrow from a scratch buffer with just room for them, to the reader's end.
+/// Reads two strings that borrow from a scratch buffer with just room for them, to the reader's
+/// end.
 fn lends_all<'b, R: Reader + 'b>(rt: &(impl Abort + AllocGlobal), reader: R) {
     let mut memory = [OLD; 3];
     let ((first, last), (reader, left)) = assert_read::<(&str, &str), _>(rt, (reader, &mut memory));
@@ -74,7 +75,7 @@ fn lends_all<'b, R: Reader + 'b>(rt: &(impl Abort + AllocGlobal), reader: R) {
     assert_unread(rt, reader, &[]);
 }
 
-/// Reads a text that borrows from a part of the scratch buffer. A byte is left in the reader.
+/// Reads a string that borrows from a part of the scratch buffer. A byte is left in the reader.
 fn lends_one<'b, R: Reader + 'b>(rt: &(impl Abort + AllocGlobal), reader: R) {
     let mut memory = [OLD; 2];
     let (text, (reader, left)) = assert_read::<&str, _>(rt, (reader, &mut memory));
@@ -83,8 +84,8 @@ fn lends_one<'b, R: Reader + 'b>(rt: &(impl Abort + AllocGlobal), reader: R) {
     assert_unread(rt, reader, &[0x99]);
 }
 
-/// Reads two texts that borrow from a scratch buffer with just room for them, and a character
-/// between them, which doesn't.
+/// Reads two strings that borrow from a scratch buffer with just room for them, and a character
+/// between them, which borrows nothing.
 fn lends_around<'b, R: Reader + 'b>(rt: &(impl Abort + AllocGlobal), reader: R) {
     let mut memory = [OLD; 3];
     let ((first, letter, last), (_, left)) = assert_read::<(&str, char, &str), _>(
@@ -97,19 +98,19 @@ fn lends_around<'b, R: Reader + 'b>(rt: &(impl Abort + AllocGlobal), reader: R) 
     same(rt, left.len(), 0);
 }
 
-/// Reads two texts for which the scratch is too short.
+/// Reads two strings for which the scratch is too short.
 fn refuses_texts<'b, R: Reader + 'b>(rt: &(impl Abort + AllocGlobal), reader: R) {
     let mut memory = [OLD; 2];
     assert_refused::<(&str, &str), _>(rt, (reader, &mut memory));
 }
 
-/// Reads a text with no scratch.
+/// Reads a string with no scratch.
 fn refuses_a_text<'b, R: Reader + 'b>(rt: &(impl Abort + AllocGlobal), reader: R) {
     let mut memory = [OLD; 0];
     assert_refused::<&str, _>(rt, (reader, &mut memory));
 }
 
-/// Reads texts as `String`s, which need the scratch only for a while.
+/// Reads strings as `String`s, which need the scratch only for a while.
 fn copies_texts<'b, R: Reader + 'b>(rt: &(impl Abort + AllocGlobal), reader: R) {
     let mut memory = [OLD; 2];
     let ((first, last), (reader, left)) = assert_read::<(String, String), _>(
@@ -135,8 +136,7 @@ fn takes<'b, R: Reader + 'b>(rt: &impl Abort, reader: R) {
     );
 }
 
-/// Takes more bytes than the reader has, which is one call for all of them. Their scratch is used
-/// up.
+/// Takes more bytes than the reader has, in one call. Their scratch is used up.
 fn refuses_a_take<'b, R: Reader + 'b>(rt: &impl Abort, reader: R) {
     let mut memory = [OLD; 4];
     let mut source = IOReader::new(reader, &mut memory);

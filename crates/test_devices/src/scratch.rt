@@ -1,5 +1,5 @@
-//! Tests of the scratch buffer of a reader: numbers and lists need none, and values that are copied
-//! out of it need it only for a while.
+//! Tests of the scratch buffer of a reader. Numbers and lists need none. Values that are copied out
+//! of it need it only for a while.
 
 use crate::OLD;
 use crate::asserts::{assert_read, assert_refused, same, same_bytes};
@@ -28,7 +28,7 @@ fn none_for_numbers_and_lists(rt: HostRuntime) {
     same_bytes(&rt, list.as_slice(), &[5, 6]);
 }
 
-/// The text "Hi!".
+/// The string "Hi!".
 const TEXT: [u8; 4] = [0x03, 0x48, 0x69, 0x21];
 
 #[test]

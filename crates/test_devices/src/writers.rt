@@ -23,15 +23,15 @@ fn short_of_room(rt: HostRuntime) {
     same(&rt, refused, Some(Error::SerializeBufferFull));
 }
 
-/// As many bytes as a writing flavor holds, so that it writes them at once.
+/// A string of the length that a writing flavor gathers, so that the flavor writes it at once.
 const TEXT: &str = "0123456789abcdef0123456789abcdef0123456789abcdef0123456789abcdef";
 
-/// The encoding of 1 as a `u8`, 10 as a `u32` and this text.
+/// The encoding of 1 as a `u8`, 10 as a `u32` and [`TEXT`].
 const ENCODED: &[u8] =
     b"\x01\x0A\x400123456789abcdef0123456789abcdef0123456789abcdef0123456789abcdef";
 
 /// Writes a tuple to a writer of which one write, or the flush, fails, if the tuple needs it. The
-/// bytes before the text take one write, and the text another.
+/// bytes before the string take one write, and the string another.
 ///
 /// No clause says that `to_io` flushes its writer: only this and `is_written_or_refused` of
 /// `test_refusals` would catch one that doesn't.

@@ -82,8 +82,8 @@ fn made(rt: &(impl Abort + AllocGlobal), content: &[u8]) -> Vec<u8> {
     frame
 }
 
-/// Takes a run that is as long as possible from the front of the data, and adds it to the frame.
-/// Then pushes the next byte, if there is one. Returns what is left of the data.
+/// Takes the longest possible run from the start of the data, and adds it to the frame. Then pushes
+/// the next byte, if there is one. Returns the remaining data.
 fn push_run<'a>(
     rt: &impl Abort,
     frame: &mut Vec<u8>,
@@ -140,7 +140,7 @@ fn is_filled_by_one(rt: &impl Abort, state: EncoderState) {
     same(rt, state.finalize(), (255, 1));
 }
 
-/// Pushes the byte that is at this place of a frame, which is a byte of the open group.
+/// Pushes the byte at this place of a frame, which belongs to the open group.
 fn push_single(rt: &impl Abort, state: &mut EncoderState, place: usize) {
     stands_at(rt, &*state, place);
     same(rt, state.push(0x11), PushResult::AddSingle(0x11));
@@ -200,8 +200,8 @@ pub fn comes_back(rt: &(impl Abort + AllocGlobal), content: &[u8], more: usize) 
     is_decoded(rt, &mut buffer, content);
 }
 
-/// Asserts that a group of 254 bytes is decoded, and one that is a byte shorter than its code says
-/// isn't, with these bytes after the group.
+/// Asserts that a group of 254 bytes is decoded if `end` follows it. A group that is a byte shorter
+/// than its code says is refused.
 fn is_whole_or_short(rt: &(impl Abort + AllocGlobal), end: &[u8]) {
     let mut whole = joined(rt, &[&[0xFF, 0x11], &FULL_LESS_ONE, end]);
     same(rt, decode_in_place(&mut whole), Ok(254));
@@ -285,7 +285,7 @@ fn what_is_no_frame_is_not_decoded(rt: HostRuntime) {
     }
 }
 
-/// Decodes the frame at the front of the bytes, which may succeed or fail. Asserts that a frame
+/// Decodes the frame at the start of the bytes, which may succeed or fail. Asserts that a frame
 /// ends at the first zero, and that each byte from there on stays as it was.
 fn survives(rt: &(impl Abort + AllocGlobal), before: &[u8]) {
     let mut after = joined(rt, &[before]);

@@ -169,8 +169,8 @@ fn a_frame_has_no_room_after_a_byte_of_a_slice(rt: HostRuntime) {
     same(&rt, full, Some(Error::SerializeBufferFull));
 }
 
-/// Writes a byte and a frame of two bytes into a slice, of which the frame has five bytes. Asserts
-/// that the slice comes back, with the frame if it has room.
+/// Writes a byte and then the frame of two bytes, which has five bytes, into a slice. Asserts that
+/// the slice is returned, with the frame if it has room.
 fn comes_back(rt: &impl Abort, place: &mut [u8]) {
     let room = place.len();
     let mut slice = Slice::new(place);
@@ -209,8 +209,8 @@ fn a_vector_comes_back(rt: HostRuntime) {
     same(&rt, (held.first(), held.last()), (Some(&0x09), Some(&0x31)));
 }
 
-/// Asserts that data that is taken byte by byte, and in pieces of up to 7 bytes, has the frame that
-/// it has when it is taken whole.
+/// Asserts that data has the same frame whether it is taken byte by byte, in pieces of up to 7
+/// bytes, or whole.
 pub fn pieces_make_the_same_frame(rt: &(impl Abort + AllocGlobal), data: &[u8]) {
     let len = data.len();
     let whole = framed(AllocVec::new(rt.alloc()), data, 600).expect(rt, "a vector grows");

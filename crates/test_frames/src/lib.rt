@@ -1,5 +1,5 @@
-//! Tests of frames of COBS, with frames worked out by hand: encoding and decoding them, the flavor
-//! that writes them, values as frames, and the accumulator that finds them in a stream.
+//! Tests of COBS frames, with frames worked out by hand. They test the encoder, the decoder, the
+//! flavor that writes frames, values as frames, and the accumulator that finds frames in a stream.
 #![tactic(auto)]
 
 #[cfg(test)]

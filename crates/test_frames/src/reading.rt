@@ -10,7 +10,7 @@ use std::alloc::AllocGlobal;
 use std::process::Abort;
 use test_support::types::RefStruct;
 
-/// Bytes, each beside the bytes after the frame at their front, which holds the byte 7.
+/// Bytes that begin with a frame of the byte 7, each beside the bytes after that frame.
 const BYTES: [(&[u8], &[u8]); 4] = [
     (&[0x02, 0x07], &[]),
     (&[0x03, 0x07, 0x08, 0x00], &[]),
@@ -21,7 +21,8 @@ const BYTES: [(&[u8], &[u8]); 4] = [
 /// Bytes that aren't a frame.
 const NO_FRAMES: [&[u8]; 3] = [&[], &[0x00], &[0x05, 0x01, 0x00]];
 
-/// Asserts that the byte 7 is read from the frame at the front of these bytes, which leaves these.
+/// Asserts that the byte 7 is read from the frame at the start of `bytes`, and that the bytes
+/// `left` remain.
 fn is_read(rt: &(impl Abort + AllocGlobal), bytes: &[u8], left: &[u8]) {
     let mut buffer = joined(rt, &[bytes]);
     let front = take_from_bytes_cobs::<u8>(rt.alloc(), &mut buffer);
@@ -180,7 +181,7 @@ const VALUE_FRAMES: [&[u8]; 20] = [
     &[0x01, 0x01, 0x06, 0x80, 0x94, 0xEB, 0xDC, 0x03, 0x00],
 ];
 
-/// Reads the frame at the front of the bytes, which may succeed or fail. Asserts that each byte
+/// Reads the frame at the start of the bytes, which may succeed or fail. Asserts that each byte
 /// from the first zero on is then as it was.
 fn survives<T: DeserializeOwned>(rt: &(impl Abort + AllocGlobal), before: &[u8]) {
     let mut after = joined(rt, &[before]);

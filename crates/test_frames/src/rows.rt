@@ -1,4 +1,4 @@
-//! Data beside its frames, worked out by hand; and bytes joined, searched for a zero, and set.
+//! Data beside its frames, worked out by hand, and functions on bytes that the tests share.
 
 use std::alloc::AllocGlobal;
 use std::process::Abort;
@@ -36,8 +36,8 @@ pub const FULL: [u8; 254] = [0x11; 254];
 /// The data of a group that has room for one byte more.
 pub const FULL_LESS_ONE: [u8; 253] = [0x11; 253];
 
-/// Data in pieces, each beside its frame in pieces: of 253, 254 and 255 bytes other than zero, of a
-/// full group and a zero, and of two full groups.
+/// Data in pieces, each beside its frame in pieces. The data are 253, 254 and 255 bytes other than
+/// zero, a full group and a zero, and two full groups.
 pub const LONG: [(&[&[u8]], &[&[u8]]); 5] = [
     (&[&FULL_LESS_ONE], &[&[0xFE], &FULL_LESS_ONE, &[0]]),
     (&[&FULL], &[&[0xFF], &FULL, &[1, 0]]),

@@ -12,7 +12,7 @@ use std::fmt::Debug;
 use std::process::Abort;
 use test_support::devices::readers::FailingReader;
 
-/// A stream of two frames, of which the first has no room in four bytes and the second has.
+/// A stream of two frames. The first has no room in four bytes, and the second has.
 const STREAM: [u8; 9] = [5, 1, 1, 1, 1, 0, 2, 7, 0];
 
 /// The answers to that stream.
@@ -206,8 +206,8 @@ fn refused_answers(rt: HostRuntime) {
     same(&rt, out.as_slice(), BOTH.as_slice());
 }
 
-/// Asserts that the answer is this list. It is `DeserError` if the allocation for the list failed,
-/// unless one was `refused` before. Returns whether one was refused by now.
+/// Asserts that the answer is this list. If the allocation for the list failed, and none was
+/// `refused` before, it is `DeserError`. Returns whether an allocation has been refused by now.
 fn is_list(rt: &impl Abort, answer: Option<&Answer<Vec<u8>>>, list: &[u8], refused: bool) -> bool {
     match answer {
         Some(Answer::Success(read)) => {

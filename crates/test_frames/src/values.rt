@@ -11,8 +11,8 @@ use std::alloc::AllocGlobal;
 use std::process::Abort;
 use test_support::types::RefStruct;
 
-/// Asserts that a frame was written into a buffer of `room` bytes with this outcome: all of it if it
-/// has room, and only in these bytes.
+/// Asserts the outcome of writing a frame into a buffer of `room` bytes. If the frame has room, all
+/// of it is written. No byte after the `room` bytes changes.
 fn is_written(
     rt: &impl Abort,
     buffer: &[u8; 16],
@@ -31,7 +31,7 @@ fn is_written(
     same(rt, buffer.get(end..), [OLD; 16].get(end..));
 }
 
-/// Asserts that this was written, if it was with success, and returns its length.
+/// Asserts that a successful call wrote this frame, and returns the frame's length.
 fn written_len(rt: &impl Abort, written: Result<&mut [u8]>, frame: &[u8]) -> Result<usize> {
     match written {
         Ok(front) => {
@@ -55,7 +55,7 @@ fn is_framed_in_slices<T: Serialize>(rt: &impl Abort, value: &T, frame: &[u8]) {
     }
 }
 
-/// Asserts that the value has this frame in a vector of fixed capacity, and in one that grows.
+/// Asserts that the value has this frame in a vector of fixed capacity, and in one that allocates.
 fn is_framed_in_vectors<T: Serialize>(rt: &(impl Abort + AllocGlobal), value: &T, frame: &[u8]) {
     let fixed = to_vec_cobs::<_, 16>(value).expect(rt, "the frame has room");
     same(rt, fixed.as_slice(), frame);

@@ -1,14 +1,15 @@
-//! What the tests assert with. A test is proved like any function, and each kind of assertion in it
-//! takes a while; so an assertion is made here once, for all types.
+//! Assertions that the tests share. A test is proved like any function, and each kind of assertion
+//! in it takes a while. So an assertion is made here once, for all types.
 
 use std::fmt::Debug;
 use std::process::Abort;
 
+// Asserts that the two are equal.
 pub(crate) fn same<T: PartialEq + Debug + Drop>(rt: &impl Abort, value: T, want: T) {
     assert_eq!(rt; value, want);
 }
 
-/// A failure prints `at` too, which says where in a table.
+/// Asserts that the two are equal. A failure prints `at` too, which says where in a table.
 pub(crate) fn same_at<T: PartialEq + Debug + Drop, A: Debug + Drop>(
     rt: &impl Abort,
     value: T,

@@ -1,4 +1,4 @@
-//! The texts and the names of the errors, and what errors are made from.
+//! The messages and the names of the errors, and the conversions into errors.
 
 use crate::asserts::{same, same_at, same_bytes, value};
 use postcard_wire::{Error, Result};
@@ -6,7 +6,7 @@ use std::alloc::{AllocError, Global};
 use std::error;
 use std::process::Abort;
 
-/// Each error with its name and its text: those of postcard 1.1.3, and last this port's own.
+/// Each error with its name and its message: those of postcard 1.1.3, and last this port's own.
 const TABLE: [(Error, &str, &str); 17] = [
     (
         Error::WontImplement,
@@ -144,7 +144,7 @@ fn is_made_of_any_message(rt: HostRuntime) {
     same(&rt, Error::de_custom(7u8), Error::SerdeDeCustom);
 }
 
-/// Allocates as a reader of a user's type does, with `?` alone.
+/// Allocates as the impl of a user's type does, with `?` alone.
 fn grown(alloc: Global) -> Result<(String, Vec<u8>)> {
     let text = String::from_str(alloc, "Hi!")?;
     let mut items = Vec::new(alloc);

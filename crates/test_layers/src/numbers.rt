@@ -8,7 +8,7 @@ use postcard_wire::digits::Digits;
 use postcard_wire::{Error, Result, text, varint, zigzag};
 use std::process::Abort;
 
-/// Reads a number from the front of `bytes`. Returns it with its count of bytes.
+/// Reads a number from the start of `bytes`. Returns it with its count of bytes.
 fn read(bits: u32, bytes: &[u8]) -> Result<(u128, usize)>
     requires { IsWidth bits }
 {

@@ -1,4 +1,4 @@
-//! The reading half over a slice: rows that were worked out without this code, and each call and
+//! Tests of reading from a slice: rows that were worked out without this code, and each call and
 //! each generic impl once. A type that borrows nothing is read by both traits, `Deserialize` and
 //! `DeserializeOwned`.
 
@@ -17,7 +17,7 @@ use std::process::Abort;
 /// The varint of 2^64 - 1.
 const GREATEST: [u8; 10] = [0xFF, 0xFF, 0xFF, 0xFF, 0xFF, 0xFF, 0xFF, 0xFF, 0xFF, 0x01];
 
-/// Input and the value that is read from its front, or the error.
+/// Input, and the value that is read from its start, or the error.
 type Row<'a, T> = (&'a [u8], Result<T>);
 
 fn read<'a, T: Deserialize<'a>>(alloc: Global, bytes: &'a [u8]) -> Result<T> {

@@ -1,6 +1,6 @@
-//! Tests of the reading flavors: the source over a slice, and the source over a reader, by what it
-//! takes from its reader and from its scratch. The readers read many bytes a call, read one byte a
-//! call, or fail. Two of the readers are tested alone, too.
+//! Tests of the reading flavors: the source over a slice, and the source over a reader. The latter
+//! is tested by what it takes from its reader and from its scratch. The readers read many bytes a
+//! call, read one byte a call, or fail. Two of the readers are tested alone, too.
 
 ghost use Rattle.std.specs.Prelude.{◌≡◌, ◌<◌, ◌≤◌, [], ◌++◌, length, take, Some, IsOk, ⊤};
 ghost use Rattle.postcard_de_flavors.specs.IOReader.{scratch_of};
@@ -21,7 +21,7 @@ fn assert_popped<F: Flavor>(rt: &impl Abort, source: &mut F, want: Result<u8>) {
     same(rt, source.pop(), want);
 }
 
-/// Asserts that these are the next bytes, which are taken until the next call.
+/// Asserts that these are the next bytes. They are lent until the next call.
 fn assert_lent<F: Flavor>(rt: &impl Abort, source: &mut F, want: &[u8]) {
     same(rt, source.try_take_n_temp(want.len()), Ok(want));
 }
@@ -65,8 +65,8 @@ fn a_slice_gives_no_bytes_at_the_end(rt: HostRuntime) {
     assert_gives_none_at_the_end(&rt, &[7]);
 }
 
-/// Moves the first byte of `bytes` into the front of `buf`, and returns the number of bytes moved:
-/// 0 if either is empty.
+/// Moves the first byte of `bytes` into the first bytes of `buf`, and returns the number of bytes
+/// moved: 0 if either is empty.
 fn move_first(bytes: &mut &[u8], buf: &mut [u8]) -> usize
     ensures moved { bytes.old.now ≡ take result buf.new ++ bytes.new.now }
     ensures fits { result ≤ length buf.new }
@@ -204,7 +204,7 @@ fn takes<T: Over>(rt: &impl Abort) {
     assert_left(rt, source, &[0xee], 6);
 }
 
-/// Takes that last, one after the other, until too few bytes are left.
+/// Takes bytes for good, one piece after the other, until too few are left.
 fn takes_for_good<T: Over>(rt: &impl Abort) {
     let mut memory = [0; 8];
     let mut source = IOReader::new(T::over(&[0xaa, 0xbb, 0xcc, 0xdd, 0xee]), &mut memory);
@@ -215,7 +215,7 @@ fn takes_for_good<T: Over>(rt: &impl Abort) {
     same(rt, second, Ok([0xcc, 0xdd].as_slice()));
 }
 
-/// Single bytes need no scratch.
+/// Takes single bytes, which need no scratch.
 fn pops<T: Over>(rt: &impl Abort) {
     let mut source = IOReader::new(T::over(&[0xaa, 0xbb, 0xcc]), &mut []);
     assert_all_popped(rt, &mut source, &[0xaa, 0xbb, 0xcc]);
@@ -238,7 +238,7 @@ fn input_too_short_to_lend<T: Over>(rt: &impl Abort) {
     assert_room(rt, source, 4);
 }
 
-/// The reader isn't called.
+/// Takes more bytes than the scratch has room for. The reader isn't called.
 fn scratch_too_short<T: Over>(rt: &impl Abort) {
     let mut memory = [0; 1];
     let mut source = IOReader::new(T::over(&[1, 2]), &mut memory);
@@ -309,8 +309,8 @@ fn assert_has_no_two<T: Reader>(rt: &impl Abort, reader: &mut T) {
     same(rt, reader.read_full(&mut buf).is_err(), true);
 }
 
-/// No clause says what a slice keeps after a read of too many bytes: this is the only test that
-/// would catch one that then loses the bytes that it has.
+/// No clause says what a slice keeps after a read of too many bytes. Only this test would catch a
+/// slice that then loses its bytes.
 #[test]
 fn a_slice_as_a_reader(rt: HostRuntime) {
     let bytes = [1, 2, 3];

@@ -1,4 +1,4 @@
-//! The writing half: values and each call of the serializer, with bytes worked out by hand from the
+//! Tests of writing: values and each call of the serializer, with bytes worked out by hand from the
 //! wire format.
 
 ghost use Rattle.std.specs.Prelude.{◌≡◌, ◌%◌, [], ◌∷◌};
@@ -92,7 +92,7 @@ impl Serialize for Both {
     }
 }
 
-/// A user's type whose odd numbers refuse themselves.
+/// A user's type whose odd numbers refuse to be written.
 #[derive(Drop)]
 struct Even(u8);
 

@@ -1,5 +1,5 @@
-//! The writing flavors and storages through their traits, against bytes worked out by hand: each
-//! where it takes a piece and where it refuses one, and users' flavors over others.
+//! Tests of the writing flavors and storages through their traits, with bytes worked out by hand.
+//! Each takes a piece, and refuses one. Other tests use flavors of a user over others.
 
 ghost use Rattle.std.specs.Prelude.{◌≡◌, ◌∷◌, [], ⊤, length};
 
@@ -70,8 +70,8 @@ fn each_flavor_that_grows_has_the_bytes(rt: HostRuntime) {
     same_bytes(&rt, &written, &[9, 8, 1, 2, 3, 4]);
 }
 
-/// Writes 03 05 07 after what is held, changes the first byte of all to 09 by `set` and the second
-/// to 06 by the index. Asserts that the second was `second` before that.
+/// Appends 03 05 07. Then changes the first byte of the storage to 09 by `set`, and the second to
+/// 06 by the index. Asserts that the second was `second` before that.
 fn change_two<B: Storage>(rt: &impl Abort, storage: &mut B, second: u8) {
     assert!(rt; storage.try_extend(&[3, 5, 7]).is_ok());
     storage.set(0, 9);
@@ -85,7 +85,7 @@ fn assert_held<B: Storage>(rt: &impl Abort, storage: &B, count: usize)
     assert_eq!(rt; storage.held_len(), count);
 }
 
-/// The counts are those at first, and after pushing 01.
+/// Asserts the number of held bytes, before and after pushing 01.
 fn assert_counts<B: Storage>(rt: &impl Abort, storage: &mut B, before: usize, after: usize) {
     same(rt, storage.held_len(), before);
     same(rt, storage.try_push(1), Ok(()));
@@ -185,7 +185,7 @@ fn a_vector_extends(rt: HostRuntime) {
     same_bytes(&rt, &target, &[1, 2, 3]);
 }
 
-/// Pieces for six bytes.
+/// Pieces for a room of six bytes.
 const FILLS: [Row<'static>; 2] = [(&[0x03], Ok(())), (b"Hi!", Ok(()))];
 
 #[test]
@@ -197,7 +197,7 @@ fn a_slice_fills_from_the_front(rt: HostRuntime) {
     same_bytes(&rt, front, &[0x03, 0x48, 0x69, 0x21]);
 }
 
-/// Pieces for three bytes.
+/// Pieces for a room of three bytes.
 const WHOLE_OR_NOT: [Row<'static>; 5] = [
     (&[0x03], Ok(())),
     (b"Hi!", Err(Error::SerializeBufferFull)),
@@ -229,7 +229,7 @@ fn a_slice_of_no_bytes_takes_nothing(rt: HostRuntime) {
     same_bytes(&rt, front, &[]);
 }
 
-/// Pieces for four bytes, of which two are taken.
+/// Pieces for a room of four bytes, of which two are taken.
 const TWO_OF_FOUR: [Row<'static>; 2] = [
     (&[1, 2], Ok(())),
     (&[3, 4, 5], Err(Error::SerializeBufferFull)),
@@ -425,7 +425,7 @@ impl<F: Flavor + Drop> Flavor for Bytewise<F> {
     }
 }
 
-/// Pieces for four bytes, of which the second is taken in part.
+/// Pieces for a room of four bytes, of which the second is taken in part.
 const BYTE_BY_BYTE: [Row<'static>; 2] = [
     (&[1, 0, 3], Ok(())),
     (&[4, 5], Err(Error::SerializeBufferFull)),
@@ -526,7 +526,7 @@ fn a_user_writes_to_two_flavors(rt: HostRuntime) {
     same_bytes(&rt, &vec, &[1, 2, 3, 4]);
 }
 
-/// Pieces for three bytes.
+/// Pieces for a room of three bytes.
 const SECOND_REFUSES: [Row<'static>; 2] = [
     (&[1], Ok(())),
     (&[2, 3, 4], Err(Error::SerializeBufferFull)),

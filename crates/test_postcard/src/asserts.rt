@@ -11,8 +11,8 @@ use std::process::Abort;
 /// A byte of a buffer before anything is written.
 pub const OLD: u8 = 0xAA;
 
-/// Asserts that the two are equal. A function, since each macro that asserts is proved where it
-/// stands.
+/// Asserts that the two are equal. It is a function, since each macro that asserts is proved where
+/// it stands.
 pub fn same<T: PartialEq + Debug + Drop>(rt: &impl Abort, got: T, want: T) {
     assert_eq!(rt; got, want);
 }
@@ -34,8 +34,8 @@ pub fn assert_written<T: Serialize>(rt: &impl Abort, value: &T, want: &[u8]) {
     }
 }
 
-/// Asserts that the bytes are read as this value, which is written as them, or are refused with this
-/// error.
+/// Asserts that the bytes are read as this value and the value is written as these bytes, or that
+/// they are refused with this error.
 pub fn assert_read<'a, T: Serialize + Deserialize<'a> + PartialEq + Debug>(
     rt: &(impl Abort + AllocGlobal),
     bytes: &'a [u8],
@@ -47,8 +47,8 @@ pub fn assert_read<'a, T: Serialize + Deserialize<'a> + PartialEq + Debug>(
     }
 }
 
-/// Returns the value at the front of the bytes, and the bytes after it. A function without clauses,
-/// since what the contract of a call says of a type is proved anew wherever it is called.
+/// Returns the value at the start of the bytes, and the bytes after it. It has no clauses: the
+/// contract of a call is proved anew for each type wherever it is called.
 pub fn taken<'a, T: Deserialize<'a>>(
     rt: &(impl Abort + AllocGlobal),
     bytes: &'a [u8],
@@ -72,7 +72,7 @@ fn value_of<T: DeserializeOwned>(owned: Owned<T>) -> T {
     owned.0
 }
 
-/// Asserts the same, also if the value is read by `DeserializeOwned`.
+/// Asserts what [`assert_read`] does, also if the value is read by `DeserializeOwned`.
 pub fn assert_owned<'a, T: Serialize + Deserialize<'a> + DeserializeOwned + PartialEq + Debug>(
     rt: &(impl Abort + AllocGlobal),
     bytes: &'a [u8],

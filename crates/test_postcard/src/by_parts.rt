@@ -1,5 +1,5 @@
-//! A test of the calls for the impls of a user's types: an enum with a type parameter, which is written
-//! by its variants and read by its parts.
+//! A test of the calls for the impls of a user's types. An enum with a type parameter is written by
+//! its variants and read by its parts.
 
 ghost use Rattle.test_postcard.specs.declared.by_parts.Step.{Step};
 ghost use Rattle.postcard_shape.specs.Shape.{via};

@@ -1,5 +1,5 @@
-//! Tests of the examples of `README.md` and `docs/CALLING.md` that are just calls, but for that
-//! with a checksum, which `test_crc` has.
+//! Tests of the examples of `README.md` and `docs/CALLING.md` that are just calls. `test_crc` has
+//! the example with a checksum.
 
 use crate::asserts::same;
 use postcard::experimental::serialized_size;

@@ -1,5 +1,5 @@
-//! Tests of numbers at their full width. The bytes were worked out by hand: the digits of each
-//! number in base 16, two for each byte, the highest byte first as on paper, or the lowest first.
+//! Tests of numbers at their full width. The bytes were worked out by hand. They are the digits of
+//! each number in base 16, two for each byte, with the highest byte first or the lowest first.
 
 use crate::asserts::{OLD, assert_refused, assert_written, read, same, taken};
 use postcard::fixint::{BE, FixInt, LE, be, le};
@@ -11,7 +11,7 @@ use std::process::Abort;
 
 const END: Error = Error::DeserializeUnexpectedEnd;
 
-/// The number 0x0102030405060708090A0B0C0D0E0F10, the highest byte first. Its fronts are the
+/// The number 0x0102030405060708090A0B0C0D0E0F10, the highest byte first. Its prefixes are the
 /// numbers of the other widths.
 const COUNT: [u8; 16] = [1, 2, 3, 4, 5, 6, 7, 8, 9, 10, 11, 12, 13, 14, 15, 16];
 
@@ -145,8 +145,8 @@ fn front(bytes: &[u8; 16], width: usize) -> &[u8] {
     bytes.get(..width).unwrap_or(bytes)
 }
 
-/// Asserts what [`assert_both_ways`] does of an unsigned type of `width` bytes: of the number of [`COUNT`], of 0 and of the
-/// greatest number.
+/// Calls [`assert_both_ways`] for an unsigned type of `width` bytes: for the number of [`COUNT`], 0
+/// and the greatest number.
 fn assert_unsigned<T: FixInt + PartialEq + Debug>(
     rt: &(impl Abort + AllocGlobal),
     width: usize,
@@ -159,8 +159,8 @@ fn assert_unsigned<T: FixInt + PartialEq + Debug>(
     assert_both_ways(rt, greatest, front(&ONES, width));
 }
 
-/// Asserts what [`assert_both_ways`] does of a signed type of `width` bytes: of the number of [`COUNT`], of -1, of the greatest
-/// number and of the least.
+/// Calls [`assert_both_ways`] for a signed type of `width` bytes: for the number of [`COUNT`], -1,
+/// the greatest number and the least.
 fn assert_signed<T: FixInt + PartialEq + Debug>(
     rt: &(impl Abort + AllocGlobal),
     width: usize,

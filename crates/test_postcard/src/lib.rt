@@ -1,7 +1,7 @@
-//! Tests of the calls of `postcard` beside the rows of `test_vectors`: each call at a concrete
-//! type, the calls of a `Deserializer`, and those of the impls of a user's types. They also test
-//! numbers at their full width, greatest sizes, the examples of the pages, and the types, flavors
-//! and theorems of `example_types`.
+//! Tests of the calls of `postcard`, besides the rows of `test_vectors`. Each call is made at a
+//! concrete type. So are the calls of a `Deserializer`, and those for the impls of a user's types.
+//! They also test numbers at their full width, greatest sizes, the examples of the pages, and the
+//! types, flavors and theorems of `example_types`.
 #![tactic(auto)]
 
 #[cfg(test)]

@@ -1,5 +1,5 @@
-//! A test of the longest tuple, of sixteen parts, which std neither compares nor prints. Those of thirteen to fifteen parts are
-//! read and written in the same form, and proved as it is.
+//! A test of the longest tuple, of sixteen parts, which std neither compares nor prints. Tuples of
+//! thirteen to fifteen parts are read, written and proved in the same way.
 
 use crate::asserts::{assert_written, same, taken};
 

@@ -71,7 +71,7 @@ fn limited(limit: usize) -> Limited<Slice<'static>> {
     }
 }
 
-/// Reads a number and a text.
+/// Reads a number and a string.
 fn number_and_text(
     rt: &HostRuntime,
     deserializer: &mut Deserializer<'static, Limited<Slice<'static>>>,
@@ -93,7 +93,7 @@ fn a_reading_flavor(rt: HostRuntime) {
     same(&rt, deserializer.finalize(), Ok([b'a', b'b', 7].as_slice()));
 }
 
-/// Returns the reader of what a reading flavor over a reader leaves.
+/// Returns the unread bytes of the reader that a reading flavor leaves.
 fn unread<'a>(left: Result<(&'a [u8], &'a mut [u8])>) -> Result<&'a [u8]> {
     match left {
         Ok((reader, _)) => Ok(reader),

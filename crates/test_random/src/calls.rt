@@ -61,7 +61,7 @@ fn is_written<T: Serialize>(alloc: Global, value: &T, bytes: &[u8]) -> bool {
         && filled(to_slice(value, &mut buffer), bytes)
 }
 
-/// Returns whether the bytes spell the value.
+/// Returns whether the bytes encode the value.
 fn is_spelled<T: Made + PartialEq>(alloc: Global, value: &T, bytes: &[u8]) -> bool {
     match T::made(&mut Plain::new(alloc, bytes)) {
         Some(spelled) => spelled == *value,

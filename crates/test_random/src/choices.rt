@@ -1,12 +1,12 @@
-//! What values are made of, wherever it comes from.
+//! The parts of which values are made, wherever they come from.
 
 use std::alloc::Global;
 use std::time::Duration;
 
-/// Where values come from: random choices, or bytes that spell them. Each method returns `None` if
+/// Where values come from: random choices, or bytes that encode them. Each method returns `None` if
 /// there is no such part, or if an allocation fails.
 pub(crate) trait Choices {
-    /// Returns the allocator for values of growing types.
+    /// Returns the allocator for values that allocate.
     fn alloc(&self) -> Global;
 
     /// Returns a byte.
@@ -21,13 +21,13 @@ pub(crate) trait Choices {
     /// Returns the index of one of `count` variants.
     fn variant(&mut self, count: u32) -> Option<u32>;
 
-    /// Returns a number of elements, of which at most `most` have room.
+    /// Returns a number of elements, at most `most`.
     fn count(&mut self, most: usize) -> Option<usize>;
 
     /// Returns a character.
     fn character(&mut self) -> Option<char>;
 
-    /// Returns a text of at most `most` bytes.
+    /// Returns a string of at most `most` bytes.
     fn text(&mut self, most: usize) -> Option<String>;
 
     /// Returns a duration.

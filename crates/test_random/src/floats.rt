@@ -6,13 +6,13 @@ use std::alloc::Global;
 use std::num::{f32_to_bits_with_nan, f64_to_bits_with_nan};
 use std::process::Abort;
 
-/// Returns the bits that an `f32` of these bits is written as: the same, or those of the one NaN.
+/// Returns the bits that are written for an `f32` of these bits: the same, or those of the one NaN.
 fn written_f32(bits: u32) -> u32 {
     let is_nan = bits & 0x7FFF_FFFF > 0x7F80_0000;
     if is_nan { 0x7FC0_0000 } else { bits }
 }
 
-/// Returns the bits that an `f64` of these bits is written as: the same, or those of the one NaN.
+/// Returns the bits that are written for an `f64` of these bits: the same, or those of the one NaN.
 fn written_f64(bits: u64) -> u64 {
     let is_nan = bits & 0x7FFF_FFFF_FFFF_FFFF > 0x7FF0_0000_0000_0000;
     if is_nan { 0x7FF8_0000_0000_0000 } else { bits }

@@ -1,9 +1,9 @@
-//! Tests with a hundred thousand random values of some twenty types, which are written and read
-//! back by each call, and sent in streams with damaged frames between theirs.
+//! Tests with a hundred thousand random values of some twenty types. Each call writes them and
+//! reads them back. They are also sent in streams, with damaged frames between theirs.
 //!
 //! The values come from a generator with a fixed seed for each type, so they are the same in each
-//! run. What bytes and damaged frames are to be read as is worked out by a plain decoder of the
-//! tests' own, which calls nothing of the library.
+//! run. The expected results of reading come from a plain decoder of the tests' own, which calls
+//! nothing of the library.
 #![tactic(auto)]
 
 #[cfg(test)]

@@ -1,4 +1,5 @@
-//! The types, and how a value of each is made of its parts, random ones or such as bytes spell.
+//! The types, and how a value of each is made of its parts. The parts are random, or are decoded
+//! from bytes.
 
 use crate::choices::Choices;
 use arrayvec::{ArrayString, ArrayVec};

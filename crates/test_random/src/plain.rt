@@ -13,12 +13,12 @@ pub(crate) struct Plain<'a> {
 }
 
 impl<'a> Plain<'a> {
-    /// Returns a decoder of values at the front of these bytes.
+    /// Returns a decoder of values at the start of these bytes.
     pub(crate) fn new(alloc: Global, bytes: &'a [u8]) -> Plain<'a> {
         Plain { left: bytes, alloc }
     }
 
-    /// Takes the text of the next `len` bytes, if they are UTF-8.
+    /// Takes the next `len` bytes as a string, if they are UTF-8.
     fn utf8(&mut self, len: usize) -> Option<&'a str> {
         let (front, rest) = self.left.split_at_checked(len)?;
         self.left = rest;
@@ -38,7 +38,7 @@ impl Choices for Plain<'_> {
     }
 
     /// The low 7 bits of each byte are a digit, the lowest first. The high bit is set if another
-    /// digit follows. There are as many digits as the greatest number needs, or fewer.
+    /// digit follows. There are no more digits than the greatest number needs.
     fn number(&mut self, most: u128) -> Option<u128> {
         let mut number = 0u128;
         let mut unit = 1u128;
@@ -78,7 +78,7 @@ impl Choices for Plain<'_> {
         if count <= most { Some(count) } else { None }
     }
 
-    /// The first character of a text of at most four bytes.
+    /// The first character of a string of at most four bytes.
     fn character(&mut self) -> Option<char> {
         let len = self.count(4)?;
         self.utf8(len)?.chars().next()
@@ -100,8 +100,8 @@ impl Choices for Plain<'_> {
 }
 
 /// Returns the data of a frame, given without its zero, or `None` if it is no COBS frame. A group
-/// is a code byte, and as many bytes as it says less one. A zero in the data follows if the code
-/// byte isn't 255 and another group comes.
+/// is a code byte `n` and `n - 1` bytes. A zero in the data follows if the code byte isn't 255 and
+/// another group comes.
 pub(crate) fn data_of(alloc: Global, frame: &[u8]) -> Option<Vec<u8>> {
     let mut data = Vec::new(alloc);
     let mut left = frame;

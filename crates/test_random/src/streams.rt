@@ -14,8 +14,8 @@ use std::process::Abort;
 /// The number of bytes that the accumulator has room for, each frame's zero included.
 const ROOM: usize = 512;
 
-/// Adds the frame to a stream, with a few of its bytes changed, lost or doubled, and sometimes with
-/// more bytes after it than there is room for, and then a zero.
+/// Adds a damaged frame and a zero to a stream. A few bytes of the frame are changed, lost or
+/// doubled. Sometimes more bytes follow than there is room for.
 fn add_damaged(random: &mut Random, stream: &mut Vec<u8>, frame: &[u8]) -> Result<(), AllocError> {
     for byte in frame {
         match random.below(12) {
@@ -56,7 +56,7 @@ fn is_sent<T: Made + PartialEq>(alloc: Global, frame: &[u8], value: &T) -> bool 
     }
 }
 
-/// Returns the right answers to the frames of a stream. What is after its last zero is no frame.
+/// Returns the right answers to the frames of a stream. The bytes after its last zero are no frame.
 fn right_answers<T: Made>(rt: &impl Abort, alloc: Global, stream: &[u8]) -> Vec<Answer<T>> {
     let mut answers = Vec::new(alloc);
     for frame in stream.split(|byte| *byte == 0) {

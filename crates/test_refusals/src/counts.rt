@@ -1,6 +1,6 @@
-//! Tests of counts of more than there is. Each ends in a named error: memory is requested by what
-//! was read, and never by a count. So if nothing is read before the count, the result is the same if
-//! every allocation fails.
+//! Tests of counts that exceed the input. Each call fails with a named error. Memory is requested
+//! for elements that were read, and never for a count. So if nothing is read before the count, the
+//! result is the same if every allocation fails.
 
 use arrayvec::{ArrayString, ArrayVec};
 use postcard::{Deserialize, DeserializeOwned, Error, Owned, from_bytes, from_io};
@@ -27,7 +27,8 @@ fn ends<'a, T: Deserialize<'a>>(rt: &(impl Abort + AllocGlobal), bytes: &'a [u8]
     fails::<T>(rt, bytes, Error::DeserializeUnexpectedEnd);
 }
 
-/// Asserts the same for a reader of the bytes, with 8 bytes of scratch.
+/// Asserts that reading a value from a reader of the bytes, with 8 bytes of scratch, fails with
+/// `DeserializeUnexpectedEnd`.
 fn reader_ends<T: DeserializeOwned>(rt: &(impl Abort + AllocGlobal), bytes: &[u8]) {
     let mut scratch = [0; 8];
     let outcome = from_io::<Owned<T>, _>(rt.alloc(), (bytes, &mut scratch)).err();

@@ -1,5 +1,5 @@
-//! Checks that a value and its bytes have to withstand: each byte changed, buffers of each length,
-//! and each byte of the frame changed.
+//! Checks of a value and its bytes: buffers of each length, each byte changed, and each byte of the
+//! frame changed.
 
 use postcard::experimental::serialized_size;
 use postcard::{
@@ -42,13 +42,13 @@ fn copies(alloc: Global, bytes: &[u8]) -> Result<Vec<Vec<u8>>, AllocError> {
     Ok(copies)
 }
 
-/// Returns such copies of the bytes.
+/// Returns what [`copies`] does. An allocation that fails ends the test.
 pub(crate) fn changes(rt: &(impl Abort + AllocGlobal), bytes: &[u8]) -> Vec<Vec<u8>> {
     copies(rt.alloc(), bytes).expect(rt, "copies")
 }
 
-/// Returns the frame of fewer than 254 bytes, and then `more`: each run of bytes other than zero
-/// after its length plus one, and a zero at the end.
+/// Returns the frame of fewer than 254 bytes, and then `more`. In the frame each run of bytes other
+/// than zero comes after its length plus one, and a zero is at the end.
 fn framed(alloc: Global, bytes: &[u8], more: &[u8]) -> Result<Vec<u8>, AllocError> {
     let mut frame = Vec::new(alloc);
     for run in bytes.split(|byte| *byte == 0) {
@@ -66,8 +66,8 @@ pub(crate) fn frame_changes(rt: &(impl Abort + AllocGlobal), bytes: &[u8]) -> Ve
     changes(rt, &frame)
 }
 
-/// Returns whether a call wrote `want` into the front of a buffer of `room` bytes, or failed because
-/// there is no room for it.
+/// Returns whether a call wrote `want` into the first bytes of a buffer of `room` bytes, or failed
+/// because there is no room for it.
 fn is_room(answer: postcard::Result<&mut [u8]>, room: usize, want: &[u8]) -> bool {
     match answer {
         Ok(front) => &*front == want,
@@ -75,17 +75,17 @@ fn is_room(answer: postcard::Result<&mut [u8]>, room: usize, want: &[u8]) -> boo
     }
 }
 
-/// Returns whether the buffer has a beginning of `want`, of at most `room` bytes, and its other bytes
-/// are unchanged.
+/// Returns whether the buffer begins with a prefix of `want`, of at most `room` bytes, and its
+/// other bytes are unchanged.
 fn has_a_beginning(buffer: &[u8; 48], want: &[u8], room: usize) -> bool {
     let same = buffer.iter().zip(want).take_while(|(a, b)| a == b);
     let written = same.count().min(room);
     buffer.get(written..) == [OLD; 48].get(written..)
 }
 
-/// Writes a value into a buffer of this length. Returns whether this succeeds if and only if its
-/// bytes fit, and whether in each case a beginning of them is written and the other bytes of the
-/// buffer are unchanged.
+/// Writes a value into a buffer of this length. Returns whether this succeeds if and only if the
+/// encoding fits. In each case a prefix of the encoding must be written, and the other bytes of the
+/// buffer be unchanged.
 fn takes_room<T: Serialize>(value: &T, want: &[u8], room: usize) -> bool {
     let mut buffer = [OLD; 48];
     let right = match buffer.get_mut(..room) {
@@ -114,8 +114,8 @@ fn is_no_longer<T: Serialize>(value: &T, copy: &[u8], rest: &[u8]) -> bool {
     }
 }
 
-/// Asserts that reading each copy fails with a named error, or returns a value whose encoding is at
-/// most as long as the bytes that were read.
+/// Asserts that reading each copy fails with a named error or returns a value. The value's encoding
+/// is no longer than the bytes that were read.
 fn copies_are_answered<'a, T: Serialize + Deserialize<'a>>(
     rt: &(impl Abort + AllocGlobal),
     copies: &'a [Vec<u8>],
@@ -129,7 +129,7 @@ fn copies_are_answered<'a, T: Serialize + Deserialize<'a>>(
     }
 }
 
-/// Asserts the same of a type that borrows nothing.
+/// Asserts what [`copies_are_answered`] does, for a type that borrows nothing.
 fn owned_copies_are_answered<T: Serialize + DeserializeOwned>(
     rt: &(impl Abort + AllocGlobal),
     copies: &[Vec<u8>],

@@ -24,8 +24,8 @@ fn failing(bytes: &[u8], fails_at: usize) -> InterruptedReader<FailingReader<Pie
     }
 }
 
-/// Reads a value through interruptions, where the read with the number `fails_at` fails, if there are
-/// that many. Returns whether this is the value, and reading fails if the value needs that read.
+/// Reads a value through interruptions. The read with the number `fails_at` fails. Returns whether
+/// the result is right: the value, or a failure if the value needs that read.
 fn is_read_or_refused<T: DeserializeOwned + PartialEq>(
     alloc: Global,
     value: &T,
@@ -71,9 +71,9 @@ fn failing_writer(
     }
 }
 
-/// Writes a value through interruptions, where the write with the number `fails_at` fails, if there
-/// are that many. Returns whether this fails just if that write or the flush does, and whether a
-/// beginning of the bytes is then written.
+/// Writes a value through interruptions. The write with the number `fails_at` fails. Returns
+/// whether the call fails just if that write or the flush does. A prefix of the encoding must then
+/// be written.
 ///
 /// No clause says that `to_io` flushes its writer: only this and `write_through` of
 /// `test_devices` would catch one that doesn't.
@@ -112,7 +112,7 @@ fn survives<T: Serialize + DeserializeOwned + PartialEq>(
     }
 }
 
-/// Returns a text in memory.
+/// Returns a string in memory.
 fn text(rt: &(impl Abort + AllocGlobal), text: &str) -> String {
     String::from_str(rt.alloc(), text).expect(rt, "a text")
 }
@@ -141,13 +141,13 @@ fn buffers_of(alloc: Global, longest: usize) -> Result<Vec<Vec<u8>>, AllocError>
     Ok(all)
 }
 
-/// Returns such buffers.
+/// Returns what [`buffers_of`] does. An allocation that fails ends the test.
 fn buffers(rt: &(impl Abort + AllocGlobal), longest: usize) -> Vec<Vec<u8>> {
     buffers_of(rt.alloc(), longest).expect(rt, "buffers")
 }
 
-/// Asserts that the value is read with each scratch of at least `needed` bytes, of which `kept` are
-/// used up, and that reading fails with each shorter one.
+/// Asserts that the value is read with each scratch of at least `needed` bytes, and uses up `kept`
+/// of them. With a shorter scratch reading fails.
 fn needs_scratch<'a, T: Deserialize<'a> + PartialEq>(
     rt: &(impl Abort + AllocGlobal),
     bytes: &'a [u8],

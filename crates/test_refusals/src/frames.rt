@@ -1,5 +1,4 @@
-//! Tests of feeding and reading frames of values of growing types, where an allocation may be
-//! refused.
+//! Tests of feeding and reading frames of values that allocate, where an allocation may be refused.
 
 use crate::reading::{has_encoding, one_is_right};
 use postcard::accumulator::{CobsAccumulator, FeedResult};
@@ -8,8 +7,8 @@ use std::alloc::{AllocGlobal, Global};
 use std::collections::BTreeMap;
 use std::process::Abort;
 
-/// Feeds a frame. Returns `Some(true)` for the value with this encoding, `Some(false)` for a failed
-/// allocation, and `None` for any other answer, or if the frame isn't used up.
+/// Feeds a frame. Returns `Some(true)` for the value with this encoding, and `Some(false)` for a
+/// failed allocation. Returns `None` for any other answer, or if the frame isn't used up.
 fn judged<T: DeserializeOwned + Serialize>(
     alloc: Global,
     acc: &mut CobsAccumulator<32>,

@@ -132,8 +132,8 @@ fn is_fed(rt: &(impl Abort + AllocGlobal), flags: &Vec<bool>) {
     assert!(rt; matches!(&summed, FeedResult::Success { .. }));
 }
 
-/// Asserts that a stream of `count` frames of `true` has as many answers, without and with a
-/// checksum: the message 01, and 01 with its checksum 5E.
+/// Asserts that a stream of `count` frames of `true` has `count` answers, without and with a
+/// checksum. The messages are 01, and 01 with its checksum 5E.
 fn are_answered(rt: &(impl Abort + AllocGlobal), count: u32) {
     let alloc = rt.alloc();
     let crc: Crc<u8> = Crc::new(&CRC_8_MAXIM_DOW);

@@ -1,8 +1,8 @@
-//! Tests of lists, texts and maps of each length up to 600: no call fails past some length.
+//! Tests of lists, strings and maps of each length up to 600: no call fails past some length.
 //!
-//! No clause says this of memory that grows or of a writer, since they may always fail. Beside the
-//! long rows of `test_vectors`, these are the only tests that would catch an `AllocVec`, an
-//! `ExtendFlavor` or a `WriteFlavor` that refuses a longer message though memory is left.
+//! No clause says this of memory that is allocated or of a writer, since they may always fail. A
+//! faulty `AllocVec`, `ExtendFlavor` or `WriteFlavor` could refuse a longer message though memory
+//! is left. Only these tests and the long rows of `test_vectors` would catch it.
 
 use postcard::accumulator::{CobsAccumulator, FeedResult};
 use postcard::{
@@ -24,7 +24,7 @@ fn add_number(bytes: &mut Vec<u8>, number: u16) -> Result<(), AllocError> {
     Ok(())
 }
 
-/// Returns the encoding of a list, text or map of this length, whose content has these bytes.
+/// Returns the encoding of a list, string or map of this length, whose content has these bytes.
 fn counted(alloc: Global, count: u16, content: &[u8]) -> Result<Vec<u8>, AllocError> {
     let mut bytes = Vec::new(alloc);
     add_number(&mut bytes, count)?;
@@ -72,7 +72,7 @@ fn is_fed<T: Serialize + DeserializeOwned + PartialEq>(
     }
 }
 
-/// Asserts that the value is written as its length and the bytes `content`, and is read from these
+/// Asserts that the value is written as its length and the bytes `content`. It is read from these
 /// bytes, from a reader of them, and from its frame.
 fn comes_back<T: Serialize + DeserializeOwned + PartialEq>(
     rt: &(impl Abort + AllocGlobal),

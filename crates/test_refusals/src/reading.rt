@@ -1,5 +1,5 @@
-//! Tests of reading values of growing types from a slice and from a reader. Each call is made twice,
-//! of which one may have its allocation refused.
+//! Tests of reading values that allocate, from a slice and from a reader. Each call is made twice,
+//! and an allocation of one of them may be refused.
 
 use postcard::{DeserializeOwned, Error, Owned, Result, Serialize, from_bytes, from_io, to_slice};
 use std::alloc::{AllocGlobal, Global};
@@ -44,8 +44,8 @@ fn from_reader<T: DeserializeOwned>(alloc: Global, bytes: &[u8]) -> Result<Owned
     Ok(value)
 }
 
-/// Asserts that the bytes are read as a value that has them as its encoding, or that an allocation
-/// fails and they are read so the other time.
+/// Asserts that the bytes are read as a value with this encoding. If an allocation fails, they are
+/// read as such a value the other time.
 fn is_read<T: DeserializeOwned + Serialize>(rt: &(impl Abort + AllocGlobal), bytes: &[u8]) {
     let alloc = rt.alloc();
     let first = judged::<T>(from_bytes(alloc, bytes), bytes);

@@ -7,7 +7,7 @@ use std::alloc::{AllocError, AllocGlobal, Global};
 use std::process::Abort;
 use test_support::devices::readers::{FailingReader, InterruptedReader, Pieces};
 
-/// A stream of two frames, of which the first has no room in four bytes and the second has.
+/// A stream of two frames. The first has no room in four bytes, and the second has.
 const STREAM: [u8; 9] = [5, 1, 1, 1, 1, 0, 2, 7, 0];
 
 /// The answers to the stream.

@@ -136,7 +136,7 @@ fn borrowed_bytes(rt: &(impl Abort + AllocGlobal), value: &[u8], bytes: &[u8]) {
     withstands_lent!(*rt, &[u8], value, bytes);
 }
 
-/// Does the same for a borrowed text.
+/// Does the same for a borrowed string.
 fn borrowed_text(rt: &(impl Abort + AllocGlobal), value: &str, bytes: &[u8]) {
     withstands_lent!(*rt, &str, value, bytes);
 }

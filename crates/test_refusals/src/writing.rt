@@ -1,5 +1,5 @@
-//! Tests of the calls that write into growing memory. Each is made twice, of which one may have its
-//! allocation refused.
+//! Tests of the calls that allocate their output. Each is made twice, and an allocation of one of
+//! them may be refused.
 
 use postcard::{
     Error, Result, to_allocvec, to_allocvec_cobs, to_allocvec_cobs_after, to_extend, to_io,
@@ -31,7 +31,7 @@ fn is_written(rt: &impl Abort, call: Result<Vec<u8>>, again: Result<Vec<u8>>, by
     assert!(rt; is_whole(&call, bytes) || is_whole(&again, bytes));
 }
 
-/// Numbers of one byte each, which are written one by one, so that a vector grows on the way.
+/// Numbers of one byte each. They are written one by one, so that a vector allocates several times.
 const LONG: &[u16] = &[7; 300];
 
 /// Returns the encodings of `true` and of [`LONG`], in a row.

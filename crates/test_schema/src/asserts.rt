@@ -1,9 +1,9 @@
-//! What the tests assert with.
+//! Assertions that the tests share.
 
 use std::fmt;
 use std::process::Abort;
 
-/// Asserts that a value is printed so.
+/// Asserts that a value is printed as this text.
 pub(crate) fn prints<T: fmt::Display>(rt: &(impl Abort + AllocGlobal), value: &T, printed: &str) {
     let text = format!(in rt.alloc(); "{value}").expect(rt, printed);
     assert_eq!(rt; text.as_str(), printed);

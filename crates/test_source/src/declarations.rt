@@ -1,4 +1,5 @@
-//! Tests of files of declarations: the types that their names stand for, and what is refused where.
+//! Tests of files of declarations: the types that their names stand for, and the errors of files
+//! that are refused.
 
 use crate::helpers::same;
 use postcard_source::{expression, find};

@@ -193,7 +193,7 @@ fn printed(rt: &(impl Abort + AllocGlobal), file: &str) -> String {
     printed_at(rt, "crates/weather/src/net/types.rt", file)
 }
 
-/// The same of a file with this path.
+/// Does what [`printed`] does, for a file with this path.
 fn printed_at(rt: &(impl Abort + AllocGlobal), path: &str, file: &str) -> String {
     let home = Home::of_path(path).expect(rt, "home");
     match impl_file(rt.alloc(), home, file) {
@@ -296,7 +296,7 @@ fn names_an_enum_by_crate_and_module(rt: HostRuntime) {
     }
 }
 
-/// What is written is between the marks, and is written again just so.
+/// The impls are written between the marks. Written again, they are the same.
 #[test]
 fn writes_the_same_again(rt: HostRuntime) {
     let once = printed(&rt, FILE);

@@ -1,4 +1,4 @@
--- A lemma on a buffer that is filled from the front, by writing into the part after a place.
+-- A lemma on a buffer that is filled from its start, by writing into the part after a place.
 use Rattle.std.proofs.Common.{◌≡◌, ℕ, ◌+◌, ◌≤◌, List, ◌++◌, length, take, sym, ap, ◌∙◌, length-take-le}
 use Rattle.std.proofs.Math.Seq.{take-append-add}
 use Rattle.std.proofs.lemmas.List.{take-append-le}

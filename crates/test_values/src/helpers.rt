@@ -29,7 +29,7 @@ pub fn encoded(rt: &(impl Abort + AllocGlobal), value: &Value) -> Vec<u8> {
     to_flavor(value, AllocVec::new(rt.alloc())).expect(rt, "a value is not written")
 }
 
-/// Returns the value at the front of a message, and the bytes after it.
+/// Returns the value at the start of a message, and the bytes after it.
 pub fn decoded<'a>(
     rt: &(impl Abort + AllocGlobal),
     schema: &Schema,

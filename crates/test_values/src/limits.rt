@@ -56,7 +56,8 @@ fn check_parts(
     check_text(rt, kind, text.as_str(), text.as_str());
 }
 
-/// Asserts that texts with `count` parts are read: a text, a byte string, a list and a number.
+/// Asserts that texts with `count` parts are read: those of a string, a byte string, a list and a
+/// number.
 fn check_length(rt: &(impl Abort + AllocGlobal), count: usize) {
     check_parts(rt, "str", "\"", "a", count, "\"");
     check_parts(rt, "bytes", "0x", "5a", count, "");
@@ -71,8 +72,8 @@ fn check_digits(rt: &(impl Abort + AllocGlobal), kind: &str, count: usize, is_nu
     same(rt, is_read, is_number, (kind, text.as_str()));
 }
 
-/// Asserts of each number of digits up to that of the greatest type, and one more, that those of the
-/// type have from 1 to `most`.
+/// Asserts that texts of 1 to `most` digits are numbers of the type. Texts of no digit, and of more
+/// digits up to 40, are refused.
 fn check_counts(rt: &(impl Abort + AllocGlobal), kind: &str, most: usize) {
     for count in 0..41 {
         check_digits(rt, kind, count, 0 < count && count <= most);
@@ -102,7 +103,7 @@ fn reads_each_number_of_digits(rt: HostRuntime) {
     }
 }
 
-/// A value in as many brackets as its type, up to the greatest depth.
+/// Tests values nested like their types, up to the greatest depth.
 #[test]
 fn reads_each_depth(rt: HostRuntime) {
     for count in 0..64 {

@@ -1,5 +1,6 @@
-//! Tests with random bytes, which several types read: either as a value, which is written and read
-//! again as itself, or with a named error whose place is within the bytes.
+//! Tests with random bytes, which several types read. Either they are read as a value, which is
+//! then written and read again. Or they are refused with a named error whose place is within the
+//! bytes.
 
 use crate::helpers::{check_read, check_written, encoded, text_of, type_of};
 use crate::same::same;
@@ -41,8 +42,8 @@ fn next(state: &mut u64) -> u8 {
     state.to_be_bytes()[0]
 }
 
-/// Asserts that the value, which a message of `length` bytes begins with, is read again from its
-/// text and from its encoding.
+/// Asserts that the value with which a message of `length` bytes begins is read again from its text
+/// and from its encoding.
 fn check_value(rt: &(impl Abort + AllocGlobal), schema: &Schema, value: &Value, length: usize) {
     let text = text_of(rt, schema, value);
     let message = encoded(rt, value);
@@ -81,8 +82,8 @@ fn check_lines(
     }
 }
 
-/// Asserts that the error with which a message is refused is one of reading, and that its place is
-/// within the message, and that of the last line that explains the message.
+/// Asserts that the error with which a message is refused is one of reading. Its place is within
+/// the message, and is that of the last line that explains the message.
 fn check_error(rt: &(impl Abort + AllocGlobal), schema: &Schema, message: &[u8], error: &Error) {
     same(rt, is_of_reading(error), true, error);
     let place = refused_at(rt.alloc(), schema, message)

@@ -95,7 +95,7 @@ const READ: [(&str, &str, &str); 27] = [
     ("u8?", "Some (3)", "Some(3)"),
 ];
 
-/// Types and texts that are no value of theirs, each beside the error as it is printed.
+/// Types and texts that are no value of the type, each beside the error as it is printed.
 const REFUSED: [(&str, &str, &str); 57] = [
     (
         "u8",
@@ -364,8 +364,8 @@ const REFUSED: [(&str, &str, &str); 57] = [
     ),
 ];
 
-/// Quoted texts with characters of two, three and four bytes of UTF-8, as themselves and as escapes,
-/// each with the bytes of the text, and the text as it is printed.
+/// Quoted strings with characters of two, three and four bytes of UTF-8, as themselves and as
+/// escapes. Each stands with the bytes of the string, and the text as it is printed.
 const CHARACTERS: [(&str, &[u8], &str); 7] = [
     ("\"\u{e9}\"", b"\xc3\xa9", "\"\u{e9}\""),
     ("\"\\u{e9}\"", b"\xc3\xa9", "\"\u{e9}\""),
@@ -397,7 +397,7 @@ fn refuses_texts(rt: HostRuntime) {
     check_texts(&rt, &REFUSED);
 }
 
-/// Asserts that the quoted text is read as the text with these bytes.
+/// Asserts that the quoted text is read as the string with these bytes.
 fn check_bytes(rt: &(impl Abort + AllocGlobal), text: &str, bytes: &[u8]) {
     let value = value_of(rt, &type_of(rt, "str"), text);
     match &value {

@@ -190,7 +190,7 @@ fn check_longer(rt: &(impl Abort + AllocGlobal), schema: &Schema, text: &str, me
     check_read(rt, schema, &longer, text, &[0xFF]);
 }
 
-/// Asserts that reading each proper front of the message fails with `DeserializeUnexpectedEnd`.
+/// Asserts that reading each proper prefix of the message fails with `DeserializeUnexpectedEnd`.
 fn check_fronts(rt: &(impl Abort + AllocGlobal), schema: &Schema, message: &[u8]) {
     for length in 0..message.len() {
         let front = &message[..length];
@@ -198,8 +198,8 @@ fn check_fronts(rt: &(impl Abort + AllocGlobal), schema: &Schema, message: &[u8]
     }
 }
 
-/// Asserts that the value of the text is written as the message. A value that is written so is read
-/// from it, with or without a byte after it, and none from a proper front of it.
+/// Asserts that the value of the text is written as the message. That value is read from the
+/// message, with or without a byte after it. No value is read from a proper prefix of the message.
 pub fn check_row(rt: &(impl Abort + AllocGlobal), expression: &str, text: &str, message: &[u8]) {
     let schema = type_of(rt, expression);
     check_written(rt, &schema, text, message);

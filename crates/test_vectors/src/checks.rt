@@ -57,8 +57,8 @@ fn from_owned<T: DeserializeOwned>(alloc: Global, bytes: &[u8]) -> Result<T> {
     }
 }
 
-/// Requires that the value is written into the buffer, whose other bytes are unchanged, or that it is
-/// refused, if it doesn't fit.
+/// Requires that the value is written into the buffer, or refused if it doesn't fit. The other
+/// bytes of the buffer must be unchanged.
 fn fills<T: Serialize>(alloc: Global, value: &T, want: &[u8], buffer: &mut [u8]) -> Outcome {
     for byte in buffer.iter_mut() {
         *byte = OLD;
@@ -84,11 +84,11 @@ fn fills<T: Serialize>(alloc: Global, value: &T, want: &[u8], buffer: &mut [u8])
     )
 }
 
-/// Requires that the value is written as these bytes into growing memory and to a writer, in two of
-/// the calls after a byte that was there before.
+/// Requires that the value is written as these bytes into allocated memory and to a writer. Two of
+/// the calls append to a byte.
 ///
-/// No clause says that these calls succeed. On rows of more than 600 bytes this is the only test
-/// that would catch one of their flavors refusing a longer message though memory is left.
+/// No clause says that these calls succeed. A faulty flavor could refuse a longer message though
+/// memory is left. For messages of more than 600 bytes, only this test would catch that.
 fn written_growing<T: Serialize>(alloc: Global, value: &T, want: &[u8]) -> Outcome {
     let mut after = vec![in alloc; OLD]?;
     after.extend_from_slice(want)?;
@@ -122,7 +122,7 @@ fn written<T: Serialize>(alloc: Global, value: &T, want: &[u8]) -> Outcome {
     }
 }
 
-/// Requires that each proper front of the value's bytes is refused.
+/// Requires that each proper prefix of the value's bytes is refused.
 fn ends<'a, T: Deserialize<'a> + Debug>(alloc: Global, bytes: &'a [u8]) -> Outcome {
     for count in 0..bytes.len() {
         let (front, _) = bytes.split_at(count);
@@ -136,8 +136,8 @@ fn ends<'a, T: Deserialize<'a> + Debug>(alloc: Global, bytes: &'a [u8]) -> Outco
     Ok(())
 }
 
-/// Checks how the value of a row is read, and how it is written unless the row says that it is
-/// written otherwise.
+/// Checks how the value of a row is read. Also checks how it is written, if the row doesn't say
+/// that it is written as other bytes.
 fn check<'a, T: Serialize + Deserialize<'a> + Debug>(
     alloc: Global,
     row: &'a Row<'_>,
@@ -221,7 +221,7 @@ pub fn borrowed<'a, T: Serialize + Deserialize<'a> + Debug>(
     }
 }
 
-/// Checks a row of this type, which borrows nothing, but for its greatest size.
+/// Checks a row of this type, which borrows nothing. Its greatest size is not checked here.
 fn check_owned<'a, T: Serialize + Deserialize<'a> + DeserializeOwned + Debug>(
     alloc: Global,
     row: &'a Row<'_>,

@@ -4,10 +4,10 @@ use crate::row_error::{Reason, RowError};
 use hex::FromHexError;
 use std::alloc::Global;
 
-/// What a row says of its bytes.
+/// The result that a row expects for its bytes.
 #[derive(Clone, Copy, PartialEq)]
 pub enum Mark {
-    /// They are read as the value, which is written as them: `=`.
+    /// They are read as the value, which is written as the same bytes: `=`.
     Same,
     /// They are read as the value, which is written as other bytes: `reads`.
     Reads,
@@ -26,17 +26,17 @@ pub struct Row<'a> {
     pub spelled: Vec<u8>,
     /// The bytes of the value, and those after them.
     pub bytes: Vec<u8>,
-    /// What the row says of them.
+    /// The result that the row expects for them.
     pub mark: Mark,
     /// The result of reading a value, as text.
     pub value: String,
-    /// The result of reading a value and what is after it, as text.
+    /// The result of reading a value and the remaining bytes, as text.
     pub taken: String,
     /// Whether the row must fail.
     pub fails: bool,
 }
 
-/// Returns the bytes of a text of hexadecimal digits, or of `-`, which has none.
+/// Returns the bytes of a text of hexadecimal digits. `-` stands for no bytes.
 fn bytes_of(alloc: Global, text: &str) -> Result<Vec<u8>, RowError> {
     if text == "-" {
         return Ok(Vec::new(alloc));
@@ -48,7 +48,7 @@ fn bytes_of(alloc: Global, text: &str) -> Result<Vec<u8>, RowError> {
     }
 }
 
-/// Returns the mark of this spelling.
+/// Returns the mark that is written as this word.
 fn mark_of(word: &str) -> Result<Mark, RowError> {
     match word {
         "=" => Ok(Mark::Same),
@@ -104,7 +104,7 @@ impl<'a> Row<'a> {
         }))
     }
 
-    /// Turns the outcome of a row that must fail.
+    /// Returns the outcome of a row, reversed for a row that must fail.
     pub fn judge(&self, outcome: Result<(), RowError>) -> Result<(), RowError> {
         match outcome {
             Ok(()) if self.fails => Err(RowError::Passes),

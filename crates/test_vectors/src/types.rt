@@ -1,8 +1,8 @@
 //! The types of the table by their names, in groups. Each group passes a row of another type on to
 //! the next, and the last one refuses it.
 //!
-//! First come the types of which some bytes stay in a scratch buffer while they are read from a
-//! reader. The others need none, and are read with an empty one.
+//! First come the types that need a scratch buffer while they are read from a reader. The others
+//! are read with an empty one.
 
 mod floats;
 mod lists;

@@ -25,8 +25,8 @@ pub(crate) const FILLS: [Fill; 4] = [Fill::Least, Fill::One, Fill::Long, Fill::R
 /// How many telling values a number has.
 pub(crate) const TELLING: usize = 24;
 
-/// The bits of telling numbers: values that a byte, a varint, a sign, a count or an index tell
-/// apart, and the first that a narrower type refuses.
+/// The bits of telling numbers. They are values that a byte, a varint, a sign, a count or an index
+/// tell apart, and the first that a narrower type refuses.
 const NUMBERS: [u128; TELLING] = [
     300,
     255,
@@ -169,8 +169,7 @@ fn variant_on<'a>(
 }
 
 /// Returns a value of the type with a telling value at the end of the way. Without a way all parts
-/// are filled alike. Returns `None` if there is no room for its parts. The functions below do so,
-/// too.
+/// are filled alike. Returns `None` if there is no room for its parts. So do the functions below.
 #[cycle(make)]
 pub(crate) fn make(
     maker: &mut Maker,

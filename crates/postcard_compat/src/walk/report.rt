@@ -84,7 +84,7 @@ pub(crate) fn path_of(
     Ok(path)
 }
 
-/// Appends a name, and before it a `.`, unless it comes first or is a number in brackets.
+/// Appends a name to a path, after a `.`. The first name and a number in brackets have no `.`.
 fn push_name(path: &mut String, name: &str) -> Result<(), AllocError> {
     if !path.is_empty() && !name.is_empty() && !name.starts_with('[') {
         path.push('.')?;

@@ -80,7 +80,8 @@ fn leaf_word(alloc: Global, value: &Value) -> Result<(Leaf, Word), AllocError>
     }
 }
 
-/// Returns the word of the integer of the type with these bits. Those above its width don't count.
+/// Returns the word of the integer of the type with these bits. Bits above the type's width are
+/// ignored.
 fn number(integer: Integer, bits: u128) -> Word
     ensures { word_of result ≡ Number (fixed_number (is_signed integer) (size_of integer)
         (bits % 256 ^ size_of integer)) }
@@ -107,7 +108,7 @@ pub(crate) fn greatest_bits(integer: Integer) -> u128
     }
 }
 
-/// Returns the bits that a float of the type has, without those above them.
+/// Returns the bits within the width of the type, without those above them.
 fn float_bits(float: Float, bits: u64) -> u64
     ensures { result ≡ bits % 256 ^ float_size float }
 {

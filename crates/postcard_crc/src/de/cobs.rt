@@ -13,10 +13,10 @@ use postcard_memory::split_front;
 use postcard_wire::{Error, Result};
 use std::alloc::Global;
 
-/// Decodes a value from the frame at the front of the buffer `s`, in place, as
-/// [`from_bytes_cobs`](postcard_frame::from_bytes_cobs): the frame's data is the value's encoding,
-/// and then just its checksum. The first zero and the bytes after it stay as they are, whatever the
-/// result (`writes_back`). The Rust crate has no such call.
+/// Decodes a value from the frame at the start of the buffer `s`, in place, as
+/// [`from_bytes_cobs`](postcard_frame::from_bytes_cobs) does. The frame's data is the value's
+/// encoding, and then just its checksum. The first zero and the bytes after it are unchanged,
+/// whatever the result (`writes_back`). The Rust crate has no such call.
 ///
 /// Damage to the frame's data is refused as [`from_bytes_whole`] says (`refuses_damage`). A damaged
 /// code byte of the frame moves zeros of the data, which need not be such damage.
@@ -53,9 +53,9 @@ pub fn from_bytes_cobs<'a, T: Deserialize<'a>, W: Width, I: Implementation<W>>(
 /// What decoding in place leaves: the whole buffer, and where its parts end.
 struct DecodedFrame<'a> {
     all: &'a mut [u8],
-    /// The length of the frame without the zero that ends it; 0 if it has no data.
+    /// The length of the frame without the zero that ends it. It is 0 if the frame has no data.
     frame_len: usize,
-    /// The length of the data, which is at the front of the buffer.
+    /// The length of the data, which is at the start of the buffer.
     data_len: usize,
 }
 
@@ -77,8 +77,8 @@ fn decode_frame<'a>(s: &'a mut [u8]) -> DecodedFrame<'a>
     }
 }
 
-/// Reads a value and then just its checksum from the first `data_len` bytes of `front`, a frame's
-/// data; `front` is empty if there is none. Fails as [`from_bytes_cobs`] does.
+/// Reads a value and then just its checksum from a frame's data, the first `data_len` bytes of
+/// `front`. If there is no data, `front` is empty. Fails as [`from_bytes_cobs`] does.
 fn read_checked<'a, T: Deserialize<'a>, W: Width, I: Implementation<W>>(
     alloc: Global,
     front: &'a [u8],

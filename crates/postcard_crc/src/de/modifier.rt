@@ -8,11 +8,11 @@ use crc::{Digest, Implementation, Table, Width};
 use postcard_de_flavors::{Flavor, Slice};
 use postcard_wire::Result;
 
-/// Reads from a slice, and checks at the end that the bytes after the message are its checksum: as
-/// many as `W` has, the lowest first.
+/// Reads from a slice, and checks at the end that the bytes after the message are its checksum. A
+/// checksum has the bytes of `W`, the lowest first.
 ///
-/// The Rust crate has it over any flavor; here it serves [`Slice`] alone, since which bytes a call
-/// that fails has taken is known only of that.
+/// The Rust crate has it over any flavor. Here it works over [`Slice`] alone, the only flavor of
+/// which a contract says which bytes a failed call has taken.
 #[derive(Drop)]
 pub struct CrcModifier<'de, B, W: Width, I: Implementation<W> = Table<W>> {
     pub flavor: B,
@@ -57,7 +57,7 @@ impl<'de, W: Width, I: Implementation<W>> Flavor for CrcModifier<'de, Slice<'de>
         self.flavor.size_hint()
     }
 
-    /// Returns all bytes left; those that are taken enter the checksum then.
+    /// Returns all remaining bytes. The bytes enter the checksum when they are taken.
     fn at_hand(&self) -> &[u8] {
         self.flavor.at_hand()
     }

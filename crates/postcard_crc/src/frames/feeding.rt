@@ -12,8 +12,8 @@ use std::alloc::Global;
 /// Takes in a piece of a stream up to the end of a frame, and decodes that frame's value if just its
 /// checksum follows it. The Rust crate has no such call.
 ///
-/// The result is that of [`feed`](CobsAccumulator::feed), but `DeserError` also for a frame whose
-/// checksum is wrong or isn't whole, and for one whose data goes on after the checksum.
+/// The result is that of [`feed`](CobsAccumulator::feed), with one difference. It is `DeserError`
+/// also if the checksum is wrong or incomplete, or if the data goes on after the checksum.
 pub fn feed<'a, T: DeserializeOwned, W: Width, I: Implementation<W>, const N: usize>(
     alloc: Global,
     acc: &mut CobsAccumulator<N>,
@@ -26,8 +26,8 @@ pub fn feed<'a, T: DeserializeOwned, W: Width, I: Implementation<W>, const N: us
     read(alloc, taken, crc)
 }
 
-/// Reads the value of a frame that was taken in, and checks its checksum; otherwise the result is
-/// `DeserError`.
+/// Reads the value of a frame that was taken in, and checks its checksum. If either fails, the
+/// result is `DeserError`.
 fn read<'a, T: DeserializeOwned, W: Width, I: Implementation<W>>(
     alloc: Global,
     taken: FeedResult<'a, &[u8]>,

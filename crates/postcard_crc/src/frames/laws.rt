@@ -1,18 +1,19 @@
-//! What holds of every frame with a checksum, as contracts of functions that do nothing
-//! (`specs/FrameLaws.antt`).
+//! Laws of frames with a checksum (`specs/FrameLaws.antt`). Each law is the contract of a function
+//! that does nothing.
 
 ghost use Rattle.postcard_crc.specs.{DamageRefused, MessageArrives};
 
 use postcard_de::DeserializeOwned;
 
-/// The own answer of the frame of a value that fits, with its checksum, is `Success` with a value that
-/// looks like it, or `DeserError` if its type grows.
+/// Let a frame have a value that fits, and its checksum. Its own answer is `Success` with a value
+/// that equals the first, as far as a contract can tell. If the type allocates, the answer may be
+/// `DeserError`.
 pub fn message_arrives<T: DeserializeOwned>()
     ensures { MessageArrives T.shape }
 {}
 
-/// A frame whose data was damaged within as many bits in a row as the checksum has never has a
-/// value as its answer, unless nothing was changed. The algorithm's `refin` and `refout` are true.
+/// A frame whose data was damaged never has a value as its answer, if all changed bits lie in a run
+/// no longer than the checksum. The algorithm's `refin` and `refout` are true.
 pub fn damage_refused<T: DeserializeOwned>()
     ensures { DamageRefused T.shape }
 {}

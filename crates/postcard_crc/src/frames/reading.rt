@@ -18,8 +18,8 @@ fn keep<T: Drop>(out: &mut Vec<Answer<T>>, answer: Answer<T>)
     let _ = out.push(answer);
 }
 
-/// Feeds a piece and appends the answers to `out`. Returns how many bytes at its end weren't fed:
-/// 0, unless an allocation for an answer failed.
+/// Feeds a piece and appends the answers to `out`. Returns how many bytes at its end weren't fed.
+/// That is 0 if no allocation for an answer failed.
 fn feed_all<T: DeserializeOwned, W: Width, I: Implementation<W>, const N: usize>(
     alloc: Global,
     piece: &[u8],
@@ -58,11 +58,11 @@ fn feed_all<T: DeserializeOwned, W: Width, I: Implementation<W>, const N: usize>
     0
 }
 
-/// Reads a stream of frames of values with a checksum, and appends the answers to `out`, in all
-/// else as `read_frames` does.
+/// Reads a stream of frames of values with a checksum, and appends the answers to `out`. Otherwise
+/// it does what `read_frames` does.
 ///
 /// The answer to a frame is the value, if the frame's data is its encoding and then just its
-/// checksum; otherwise `DeserError`, or `OverFull` for a frame that has no room.
+/// checksum. Otherwise it is `DeserError`, or `OverFull` for a frame that has no room.
 pub fn read_frames<R: Reader, T: DeserializeOwned, W: Width, I: Implementation<W>, const N: usize>(
     alloc: Global,
     reader: &mut R,

@@ -9,8 +9,8 @@ use crc::{Digest, Implementation, Table, Width};
 use postcard_ser_flavors::Flavor;
 use postcard_wire::Result;
 
-/// Writes to another flavor, and adds the checksum of the message at its end: as many bytes as its
-/// type has, the lowest first.
+/// Writes to another flavor, and adds the checksum of the message at its end. The checksum has all
+/// bytes of its type, the lowest first.
 ///
 /// It has room for a message if the inner flavor has room for both.
 #[derive(Drop)]

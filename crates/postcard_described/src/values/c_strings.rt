@@ -1,4 +1,4 @@
-//! The schemas of C strings: lists of bytes. One with a zero byte is not read.
+//! The schemas of C strings: lists of bytes. A list with a zero byte is refused.
 
 ghost use Rattle.std.specs.Prelude.{◌≡◌, IfErr, IfOk};
 ghost use Rattle.std.specs.Ffi.{HasNoNul};

@@ -25,7 +25,7 @@ pub trait NamedFixInt: FixInt {
     fn integer() -> Integer
         ensures { result ≡ integer };
 
-    /// A number has as many bytes as the schema says.
+    /// A number has the number of bytes that the schema says.
     ghost same_bytes: { Same (IsArray Self.width.size IsByte) (IsArray (size_of integer) IsByte) };
 }
 

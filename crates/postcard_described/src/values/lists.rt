@@ -1,4 +1,4 @@
-//! The schemas of lists, sets and arrays. Of an `ArrayVec`, longer lists aren't read.
+//! The schemas of lists, sets and arrays. An `ArrayVec` refuses lists longer than its capacity.
 
 ghost use Rattle.postcard_described.specs.{array_same, few_same, of_array, of_few, of_seq, seq_same};
 

@@ -1,4 +1,4 @@
-//! The schemas of numbers that aren't 0: those of all numbers. No message with 0 is read.
+//! The schemas of numbers that aren't 0: those of all numbers. A message with 0 is refused.
 
 ghost use Rattle.std.specs.Prelude.{pos};
 ghost use Rattle.postcard_described.specs.{alike, of_integer, of_some};

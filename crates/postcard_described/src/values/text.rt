@@ -1,4 +1,4 @@
-//! The schemas of texts. Of an `ArrayString`, longer texts aren't read.
+//! The schemas of strings. An `ArrayString` refuses strings longer than its capacity.
 
 ghost use Rattle.std.specs.Prelude.{◌≡◌, IfErr, IfOk};
 ghost use Rattle.postcard_described.specs.{alike, leaf, of_leaf, of_some, short_text_inside, type_of};

@@ -27,7 +27,7 @@ impl HasSchema for Duration {
     ghost same = { alike };
 }
 
-/// A time before 1970 is not written, and one that the clock doesn't hold is not read.
+/// A time before 1970 is not written. A time that the clock can't hold is refused.
 impl HasSchema for SystemTime {
     ghost described = { of_some (only (λ d. FitsClock (as_nanos d)) span_of_time).reads
         (of_parts (part_then (of_integer integers.U64) (part_then (of_integer integers.U32) no_parts)))

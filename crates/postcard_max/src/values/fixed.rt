@@ -1,5 +1,5 @@
-//! The greatest sizes of arrays, and of vectors and texts of a fixed capacity: that of all elements
-//! and, but for arrays, of their count as a varint.
+//! The greatest sizes of arrays, and of vectors and strings of a fixed capacity. An array has the
+//! size of all its elements. The others add their count as a varint.
 
 ghost use Rattle.postcard_max.specs.{AllFit, array_lawful, array_limit, few_lawful, few_limit};
 ghost use Rattle.postcard_max.specs.{short_text_lawful, short_text_limit, via_lawful};

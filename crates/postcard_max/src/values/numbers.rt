@@ -1,6 +1,6 @@
-//! The greatest sizes of integers: 1 byte for 8 bits, and that of a varint, 3, 5, 10 or 19 bytes,
-//! for 16, 32, 64 or 128. In each `in_forms` the value is read for the prover, which learns from it
-//! that the number has its width.
+//! The greatest sizes of integers: 1 byte for 8 bits, and else that of a varint. A varint of 16,
+//! 32, 64 or 128 bits has at most 3, 5, 10 or 19 bytes. In each `in_forms` the value is read for
+//! the prover, which learns from it that the number has its width.
 
 ghost use Rattle.postcard_max.specs.{byte_lawful, exactly, inl, inr, int_lawful, num_lawful, refl};
 

@@ -1,5 +1,5 @@
-//! The greatest sizes of ranges, that of the tuple of their ends, and of one end of a range: 1 byte
-//! for the index, and the end.
+//! The greatest sizes of ranges: that of the tuple of their ends. One end of a range, `Bound`, has
+//! 1 byte for the index, and the end.
 
 use crate::max_size::{MaxSize, MaxSizeRepr};
 use std::ops::{Bound, Range, RangeFrom, RangeInclusive, RangeTo};

@@ -1,4 +1,4 @@
-//! The calls for values that have no parts, besides numbers and texts.
+//! The calls for values that have no parts, other than numbers and strings.
 
 ghost use Rattle.std.specs.Prelude.{◌≡◌, IsOk};
 ghost use Rattle.postcard_ser.specs.{Boolean, Char, Group, NoTrees, SerializesTree};
@@ -15,7 +15,7 @@ impl<F: Flavor> Serializer<F> {
         self.serialize_u8(if v { 1 } else { 0 })
     }
 
-    /// Writes a character as a text: the number of its bytes of UTF-8, 1 to 4, and then these
+    /// Writes a character as a string: the number of its bytes of UTF-8, 1 to 4, and then these
     /// bytes.
     pub fn serialize_char(&mut self, v: char) -> Result<()>
         ensures { SerializesTree F.Flavor (Char v) self.old result self.new }

@@ -1,5 +1,4 @@
-//! The texts of C, written as the number of the bytes before the NUL at the end, and then these
-//! bytes.
+//! C strings, written as the number of the bytes before the NUL at the end, and then these bytes.
 
 use crate::serialize::Serialize;
 use crate::serializer::Serializer;

@@ -1,5 +1,5 @@
-//! Arrays, written as the elements with no count before them, and vectors and texts of a fixed
-//! capacity, written as a list or a text of what they hold.
+//! Arrays, written as the elements with no count before them. Vectors and strings of a fixed
+//! capacity are written as lists and strings.
 
 use crate::serialize::Serialize;
 use crate::serializer::Serializer;

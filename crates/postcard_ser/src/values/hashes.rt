@@ -1,6 +1,5 @@
-//! Sets and maps that find a key by its hash. First comes the number of the keys or entries, a
-//! varint. Then these come in the order in which the set or the map keeps them, a value after its
-//! key.
+//! Hash sets and hash maps. First comes the number of the keys or entries, a varint. Then these
+//! come in the order in which the set or the map keeps them, a value after its key.
 
 ghost use Rattle.std.specs.Prelude.{Any, map, OnOk};
 ghost use Rattle.postcard_ser.specs.{AllFit, Wrote, canonical_all, pair, trees};

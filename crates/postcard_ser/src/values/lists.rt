@@ -10,8 +10,8 @@ use postcard_shape::FirstBytes;
 use postcard_wire::Result;
 use std::collections::{LinkedList, VecDeque};
 
-/// Writes the elements in order, with no count before them: in pieces where `first_bytes` returns
-/// one, and one by one where it says so.
+/// Writes the elements in order, with no count before them. `first_bytes` says which elements come
+/// next as one piece of bytes, and which are written one by one.
 pub(crate) fn serialize_all<T: Serialize, F: Flavor>(
     items: &[T],
     serializer: &mut Serializer<F>,

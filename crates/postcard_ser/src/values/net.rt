@@ -1,6 +1,6 @@
 //! Addresses of the Internet: the 4 or 16 bytes of an address in network order, the highest first,
-//! with no count before them. The port of a socket follows, a number of 16 bits. Where an address
-//! is of either version, `V4` has the index 0 and `V6` the index 1.
+//! with no count before them. The port of a socket follows, a number of 16 bits. In the types for
+//! either version, `V4` has the index 0 and `V6` the index 1.
 
 use crate::cases::serialize_variant;
 use crate::repr::SerializeRepr;

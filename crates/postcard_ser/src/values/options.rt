@@ -1,5 +1,5 @@
-//! Options, written as the byte 0, or as the byte 1 and the value; and results, an enum: `Ok` at
-//! index 0, `Err` at index 1.
+//! Options, written as the byte 0, or as the byte 1 and the value. Results are an enum: `Ok` has
+//! index 0, and `Err` index 1.
 
 use crate::serialize::Serialize;
 use crate::serializer::Serializer;

@@ -1,4 +1,4 @@
-//! Paths, written as texts.
+//! Paths, written as strings.
 
 use crate::serialize::Serialize;
 use crate::serializer::Serializer;

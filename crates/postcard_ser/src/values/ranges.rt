@@ -1,4 +1,4 @@
-//! Ranges, written as the tuple of their ends, and one end of a range.
+//! Ranges, written as the tuple of their ends, and `Bound`, one end of a range.
 
 use crate::cases::serialize_variant;
 use crate::repr::SerializeRepr;

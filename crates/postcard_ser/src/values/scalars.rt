@@ -1,5 +1,5 @@
-//! Booleans, written as one byte, 1 for `true` and 0 for `false`; characters, written as a text;
-//! and `usize` and `isize`, written as numbers of 64 bits.
+//! `bool`, written as one byte: 1 for `true` and 0 for `false`. Characters are written as strings,
+//! and `usize` and `isize` as numbers of 64 bits.
 
 use crate::serialize::Serialize;
 use crate::serializer::Serializer;

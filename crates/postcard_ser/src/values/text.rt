@@ -1,5 +1,5 @@
-//! Texts: borrowed, owned, and shared. A text is written as the number of its bytes, a varint, and
-//! then the bytes.
+//! Strings: borrowed, owned, and shared. A string is written as the number of its bytes, a varint,
+//! and then the bytes.
 
 use crate::serialize::Serialize;
 use crate::serializer::Serializer;

@@ -13,8 +13,8 @@ impl Serialize for Duration {
     }
 }
 
-/// Written as the span since the beginning of 1970. Fails with `SerdeSerCustom`, and writes nothing,
-/// if that is before 1970, or 2^63 seconds or more; no call of std makes such a value.
+/// Written as the span since the beginning of 1970. Fails with `SerdeSerCustom`, and writes
+/// nothing, if that is before 1970, or 2^63 seconds or more. No call of std makes such a value.
 impl Serialize for SystemTime {
     fn serialize<F: Flavor>(&self, serializer: &mut Serializer<F>) -> Result<()> {
         match self.duration_since(UNIX_EPOCH) {

@@ -1,7 +1,7 @@
 //! Tuples of one to twelve parts: written as the parts in order, with no count before them.
 //!
-//! A tuple passes its parts to a function with a parameter for each, since the prover's work for a
-//! tuple within a tuple grows fast with its length.
+//! A tuple passes its parts to a function with a parameter for each. This is for the prover, whose
+//! work for a tuple within a tuple increases fast with its length.
 
 ghost use Rattle.postcard_ser.specs.{WritesRow, no_part, part, then};
 

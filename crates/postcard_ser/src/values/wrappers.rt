@@ -1,5 +1,5 @@
-//! Types that hold one value of another, or point to it: written as that value, a shared one each
-//! time.
+//! Types that hold one value of another, or point to it: written as that value. A value that
+//! several hold is written for each of them.
 
 use crate::repr::SerializeRepr;
 use crate::serialize::Serialize;

@@ -1,5 +1,5 @@
-//! Tests of the deserializer's calls for values with parts, for values without bytes, and for what
-//! tells no type; of what they return; and of two laws.
+//! Tests of the deserializer's calls for values with parts, for values without bytes, and for
+//! values of no known type. Other tests are of what the calls return, and of two laws.
 
 use crate::asserts::{same, same_bytes, value};
 use postcard_de::laws::{one_message, read_again};

@@ -1,4 +1,4 @@
-//! Types whose values allocate, or hold what was read in a fixed room.
+//! Types whose values allocate, or have a fixed capacity.
 
 use super::{GREATEST, assert_read, check_refused, read, read_owned};
 use crate::asserts::{same, same_bytes, value};
@@ -11,7 +11,7 @@ use std::process::Abort;
 use std::rc::Rc;
 
 // A run with `rt try --test --fail-alloc N`, in which only the Nth allocation fails, ends as a run
-// without it: what is read is read once more if an allocation failed.
+// without it. If an allocation failed, the value is read once more.
 
 fn read_twice<'a, T: Deserialize<'a>>(alloc: Global, bytes: &'a [u8]) -> Result<T> {
     match read(alloc, bytes) {
@@ -27,7 +27,7 @@ fn read_owned_twice<T: DeserializeOwned>(alloc: Global, bytes: &[u8]) -> Result<
     }
 }
 
-/// Reads a value that is to be read, in two tries.
+/// Reads a value from good bytes, in at most two tries.
 fn read_well<'a, T: Deserialize<'a>>(rt: &impl Abort, alloc: Global, bytes: &'a [u8]) -> T {
     value(rt, read_twice(alloc, bytes))
 }
@@ -36,7 +36,7 @@ fn read_owned_well<T: DeserializeOwned>(rt: &impl Abort, alloc: Global, bytes: &
     value(rt, read_owned_twice(alloc, bytes))
 }
 
-/// Reads such a value by the `Deserialize` of `Owned`.
+/// Reads a value from good bytes by the `Deserialize` of `Owned`, in at most two tries.
 fn lead_back<T: DeserializeOwned>(rt: &impl Abort, alloc: Global, bytes: &[u8]) -> T {
     let Owned(read) = read_well::<Owned<T>>(rt, alloc, bytes);
     read
@@ -46,7 +46,7 @@ fn copy_bytes(alloc: Global, bytes: &[u8]) -> Result<Vec<u8>> {
     Deserializer::from_bytes(bytes).deserialize_byte_buf(alloc)
 }
 
-/// Asserts the bytes of a text or a list that is read by both traits.
+/// Asserts the bytes of a string or a list that is read by both traits.
 fn check_bytes<'a, T: Deserialize<'a> + DeserializeOwned + AsSlice<u8>>(
     rt: &impl Abort,
     alloc: Global,
@@ -207,7 +207,7 @@ fn number_in(some: Option<Box<u8>>) -> u8 {
     }
 }
 
-/// Returns the bytes of the text, or none if there is no text.
+/// Returns the bytes of the string, or none if there is no string.
 fn bytes_of(text: Option<&String>) -> &[u8] {
     match text {
         Some(text) => text.as_bytes(),

@@ -1,5 +1,5 @@
-//! Types of which no value allocates, but for the numbers: what chooses, characters, spans of time,
-//! parts in a row, and what is borrowed from the input.
+//! Types whose values don't allocate: `bool`, enums, characters, spans of time, tuples, and values
+//! that borrow from the input. Numbers have a file of their own.
 
 use super::{Row, assert_lent, assert_read, check, check_refused};
 use postcard_de::Error;

@@ -1,5 +1,5 @@
-//! Tests of the calls of the serializer but those for numbers and texts, with values whose bytes were
-//! worked out by hand.
+//! Tests of the calls of the serializer, without those for numbers and strings. The bytes of the
+//! values were worked out by hand.
 
 use super::assert_holds;
 use crate::asserts::{same, same_bytes};

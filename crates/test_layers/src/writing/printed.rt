@@ -1,5 +1,5 @@
-//! Tests of values that are written as the text as which they are printed: no contract says that
-//! this succeeds.
+//! Tests of values that are written as the string that they print. No contract says that this
+//! succeeds.
 
 ghost use Rattle.std.specs.Prelude.{◌∷◌, Some};
 ghost use Rattle.std.specs.Fmt.{decimal};
@@ -30,7 +30,7 @@ impl Display for Broken {
     }
 }
 
-/// A user's type that is written as the text that it prints.
+/// A user's type that is written as the string that it prints.
 #[derive(Drop)]
 struct Shown(u32);
 

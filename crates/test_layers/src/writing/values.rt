@@ -1,4 +1,4 @@
-//! Tests of each type that is written, with values whose bytes were worked out by hand.
+//! Tests of writing each type, with values whose bytes were worked out by hand.
 
 use super::{Pieces, assert_written};
 use crate::asserts::{same, value};
@@ -214,7 +214,7 @@ fn arrays(rt: HostRuntime) {
     assert_written(&rt, &[0u8; 32], &[0; 32]);
 }
 
-/// The flavor refuses the piece after `pieces`.
+/// Writes a value to a flavor that takes `pieces` pieces and refuses the next.
 fn written_in<T: Serialize>(value: &T, pieces: usize) -> Result<()> {
     let mut buffer = [0; 8];
     let mut serializer = Serializer {

@@ -56,8 +56,8 @@ impl<'a> Pieces<'a> {
         length.max(1)
     }
 
-    /// Moves the next piece, or as much of it as is left and fits, into the front of `buf`, and
-    /// returns the number of its bytes.
+    /// Moves the next piece into the first bytes of `buf`, and returns the number of bytes moved.
+    /// The piece is shorter if fewer bytes are left, or if `buf` is.
     fn give(&mut self, buf: &mut [u8]) -> usize
         ensures counts { result
             ≡ min (min (piece_length self.old.lengths.now self.old.place) (length buf.old))

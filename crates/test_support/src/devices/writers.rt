@@ -10,8 +10,8 @@ use arrayvec::ArrayVec;
 use std::io;
 use std::io::{ErrorKind, Write};
 
-/// A writer with room for `N` bytes. Each write takes as many bytes as there is room for. Once it
-/// is full, a write takes none, so that `write_all` fails.
+/// A writer with room for `N` bytes. Each write takes the bytes that there is room for. Once the
+/// writer is full, a write takes none, so that `write_all` fails.
 #[derive(Drop)]
 pub struct Bounded<const N: usize> {
     /// The bytes that were written.
@@ -32,7 +32,7 @@ impl<const N: usize> Bounded<N> {
 impl<const N: usize> Write for Bounded<N> {
     ghost contents = { λ s. Some s.held.items };
 
-    /// Takes the front of `buf` that there is room for, and returns the number of its bytes.
+    /// Takes the prefix of `buf` that there is room for, and returns the number of its bytes.
     fn write(&mut self, buf: &[u8]) -> io::Result<usize>
         ensures bound { WritesAtMost result buf.now }
         ensures bytes { WriteAppends (Some self.old.held.items) (Some self.new.held.items)

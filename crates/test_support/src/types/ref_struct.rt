@@ -3,12 +3,12 @@
 use postcard::ser_flavors::Flavor;
 use postcard::{FromRepr, Repr, Result, Serialize, SerializeRepr, Serializer};
 
-/// Borrowed bytes and a borrowed text.
+/// Borrowed bytes and a borrowed string.
 #[derive(Clone, Debug, Drop, PartialEq)]
 pub struct RefStruct<'a> {
     /// Some bytes.
     pub bytes: &'a [u8],
-    /// A text.
+    /// A string.
     pub str_s: &'a str,
 }
 

@@ -1,5 +1,5 @@
-//! Texts and lists in a box, an `Rc`, an `Arc` or a `Cow`, linked lists, heaps, hashed sets and maps,
-//! paths, texts of C and points of time.
+//! Strings and lists in a box, an `Rc`, an `Arc` or a `Cow`. Linked lists, heaps, hash sets and
+//! maps, paths, C strings and points of time.
 
 use super::users;
 use crate::checks::{Outcome, borrowed, owned_with, sized_with};

@@ -1,4 +1,4 @@
-//! Truth values, characters, choices, spans of time and errors.
+//! `bool`, characters, options and results, spans of time and errors.
 
 use super::{lists, texts};
 use crate::checks::{Outcome, owned, sized, sized_with};

@@ -1,4 +1,4 @@
-//! Texts, and bytes that are borrowed.
+//! Strings, and bytes that are borrowed.
 
 use super::lists;
 use crate::checks::{Outcome, borrowed, owned_with, sized_with};

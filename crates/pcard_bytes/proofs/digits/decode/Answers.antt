@@ -1,3 +1,4 @@
+-- Each turn decodes two digits. Where two can't be decoded, the whole text can't be.
 use Rattle.std.proofs.Common.{sym, ◌∙◌}
 use Rattle.std.proofs.lemmas.Bool.{eqb-true}
 use Rattle.std.proofs.lemmas.List.{nil_from_length}

@@ -1,3 +1,4 @@
+-- The bytes so far are those of the digits before the remaining text. Each turn takes two digits.
 use Rattle.std.proofs.Common.{length}
 use Rattle.pcard_bytes.proofs.DigitLemmas.{IsBefore}
 use Rattle.pcard_bytes.proofs.digits.decode.Given as goal

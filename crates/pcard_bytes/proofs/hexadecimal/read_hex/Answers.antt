@@ -1,3 +1,4 @@
+-- A word other than `-` is refused at its own first wrong character.
 use Rattle.std.proofs.Common.{◌≡◌, codes, arith, refl}
 use Rattle.std.proofs.lemmas.Grind.{common_steps}
 use Rattle.pcard_bytes.proofs.InputLemmas.{digits_fail}

@@ -1,3 +1,4 @@
+-- Each read appends to the bytes of the reads before. A failure is that of a read or of an allocation.
 use Rattle.std.proofs.Common.{arith, length-append}
 use Rattle.std.proofs.KnownBytes.{Consumes-trans}
 use Rattle.std.proofs.lemmas.Bool.{false≢true}

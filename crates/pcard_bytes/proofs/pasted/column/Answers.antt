@@ -1,3 +1,4 @@
+-- A line of `xxd` has its digits after the offset, up to two blanks.
 use Rattle.std.proofs.Common.{sym, ◌∙◌}
 use Rattle.pcard_bytes.proofs.PastedLemmas.{behind_offset, xxd-start, xxd-column}
 use Rattle.pcard_bytes.proofs.pasted.column.Goals as goal

@@ -1,3 +1,4 @@
+-- The remaining lines have a line of `hexdump -C` if and only if the text has one. Each turn drops a line.
 use Rattle.std.proofs.Common.{◌≡◌, ◌≤◌, length}
 use Rattle.std.specs.List.{list_any}
 use Rattle.pcard_bytes.specs.Hexadecimal.{is_of_hexdump, lines_of}

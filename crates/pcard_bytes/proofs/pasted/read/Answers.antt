@@ -1,3 +1,4 @@
+-- Each turn reads one line. The first line that is wrong is where the text is wrong.
 use Rattle.std.proofs.Common.{◌==◌, sym, ◌∙◌}
 use Rattle.std.proofs.lemmas.Result.{err_from_is_err_and}
 use Rattle.pcard_bytes.specs.Hexadecimal.{IsLine, IsWrongLine, is_dump}

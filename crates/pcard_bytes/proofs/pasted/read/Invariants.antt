@@ -1,3 +1,4 @@
+-- The bytes so far are those of the lines before the remaining text. Each turn takes a line.
 use Rattle.std.proofs.Common.{◌==◌, length}
 use Rattle.pcard_bytes.specs.Hexadecimal.{IsLine, IsWrongLine, is_dump}
 use Rattle.pcard_bytes.proofs.PastedLemmas.{IsReadUpTo}

@@ -1,3 +1,4 @@
+-- Each turn reads one word. The first word that is wrong is where the words are wrong.
 use Rattle.std.proofs.Common.{sym, ◌∙◌}
 use Rattle.std.proofs.lemmas.Result.{err_from_is_err_and}
 use Rattle.pcard_bytes.specs.Hexadecimal.{IsWord, IsWrongWord, is_separator}

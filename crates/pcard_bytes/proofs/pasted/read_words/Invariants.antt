@@ -1,3 +1,4 @@
+-- The bytes so far are those of the words before the remaining text. Each turn takes a word.
 use Rattle.std.proofs.Common.{length}
 use Rattle.pcard_bytes.specs.Hexadecimal.{IsWord, IsWrongWord, is_separator}
 use Rattle.pcard_bytes.proofs.PastedLemmas.{IsReadUpTo}

@@ -1,3 +1,4 @@
+-- The text up to the mark is the text before the loop's place, and then what stands up to the mark from there on.
 use Rattle.std.proofs.Common.{◌≡◌, ◌++◌, take, drop}
 use Rattle.pcard_bytes.specs.Hexadecimal.{up_to}
 use Rattle.pcard_bytes.proofs.pasted.up_to.Given as goal

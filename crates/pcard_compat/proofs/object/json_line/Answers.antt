@@ -1,3 +1,4 @@
+-- The pieces that are joined are the line of JSON.
 use Rattle.std.proofs.Common.{subst, string_bytes}
 use Rattle.pcard_compat.specs.{IsMember, codes}
 use Rattle.pcard_compat.proofs.object.json_line.Goals as goal

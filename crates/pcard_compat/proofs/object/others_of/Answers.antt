@@ -1,3 +1,4 @@
+-- Each turn appends the object of one more difference.
 use Rattle.std.proofs.Common.{◌<◌, length, arith, string_bytes}
 use Rattle.pcard_compat.specs.Jsons.{IsOther}
 use Rattle.pcard_compat.proofs.EachLemmas.{each_at}

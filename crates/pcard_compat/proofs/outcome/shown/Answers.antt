@@ -1,3 +1,4 @@
+-- With JSON, an error is that of `json_line`.
 use Rattle.pcard_compat.proofs.outcome.shown.Goals as goal
 
 -- Only values as JSON may have none.

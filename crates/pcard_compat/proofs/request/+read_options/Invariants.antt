@@ -1,3 +1,4 @@
+-- Each call has fewer words left.
 use Rattle.std.proofs.Common.{length}
 use Rattle.pcard_compat.proofs.request.+read_options.Given as goal
 

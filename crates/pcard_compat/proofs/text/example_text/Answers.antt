@@ -1,3 +1,4 @@
+-- The pieces that are joined are the text of the example.
 use Rattle.std.proofs.Common.{string_bytes, ap, ◌∙◌}
 use Rattle.hex.specs.Hex.{encode_lower}
 use Rattle.pcard_call.proofs.WordLemmas.{if_ok}

@@ -1,3 +1,4 @@
+-- Each turn appends the line of one more difference.
 use Rattle.std.proofs.Common.{◌<◌, length, arith}
 use Rattle.pcard_compat.specs.Texts.{IsLine}
 use Rattle.pcard_compat.proofs.EachLemmas.{each_at}

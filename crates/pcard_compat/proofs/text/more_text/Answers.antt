@@ -1,3 +1,4 @@
+-- If there are bytes, the text is that of the definition.
 use Rattle.std.proofs.Common.{◌<◌, ◌∙◌, length, arith}
 use Rattle.std.proofs.lemmas.Grind.{common_steps}
 use Rattle.pcard_call.proofs.WordLemmas.{if_ok}

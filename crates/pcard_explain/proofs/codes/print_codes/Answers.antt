@@ -1,3 +1,4 @@
+-- Each turn prints the row of one code byte and skips its group. The row of the last zero comes at the end.
 use Rattle.std.proofs.Common.{◌≡◌, ℕ, ◌+◌, ◌-◌, List, [], ◌∷◌, length, get_or, drop, refl, sym, subst, arith}
 use Rattle.std.specs.Prelude.{Bool, true}
 use Rattle.std.proofs.KnownBytes.{Appends-nil}

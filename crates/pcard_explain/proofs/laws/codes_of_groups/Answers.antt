@@ -1,3 +1,4 @@
+-- The law is a lemma of `GroupLemmas`.
 use Rattle.std.proofs.Common.{ap, ◌∙◌}
 use Rattle.std.specs.Prelude.{ℕ, List}
 use Rattle.pcard_explain.specs.Notes.{frame_notes}

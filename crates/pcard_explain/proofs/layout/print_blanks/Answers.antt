@@ -1,3 +1,4 @@
+-- A slice of 64 blanks has the wanted blanks.
 use Rattle.std.proofs.Common.{ap, subst, ◌∙◌, arith}
 use Rattle.std.specs.Prelude.{replicate}
 use Rattle.std.specs.Io.KnownBytes.{Appends}

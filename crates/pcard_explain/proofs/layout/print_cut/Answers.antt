@@ -1,3 +1,4 @@
+-- The text is written whole, or as a prefix and `..`, and then a line feed.
 use Rattle.std.proofs.Common.{[], ◌∷◌, ◌++◌, inl, inr, refl, sym, arith, length-append}
 use Rattle.std.proofs.KnownBytes.{Appends-trans}
 use Rattle.std.proofs.lemmas.List.{append_assoc, take-append-drop}

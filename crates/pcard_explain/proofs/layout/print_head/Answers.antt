@@ -1,3 +1,4 @@
+-- The offset, the bytes and the blanks are written in order, and their lengths add up to the columns that are returned.
 use Rattle.std.proofs.Common.{◌≡◌, ℕ, List, ◌-◌, ◌^◌, ◌*◌, ◌++◌, length, subst, sym, ap, ◌∙◌, arith, length-append}
 use Rattle.std.specs.Prelude.{codes, drop, min, replicate}
 use Rattle.std.specs.Io.KnownBytes.{Appends}

@@ -1,3 +1,4 @@
+-- Byte after byte: one more byte appends its digits and a blank.
 use Rattle.std.proofs.Common.{arith}
 use Rattle.std.proofs.KnownBytes.{Appends-trans}
 use Rattle.pcard_explain.proofs.LayoutLemmas.{spaced_more}

@@ -1,3 +1,4 @@
+-- The row of text is that of the note.
 use Rattle.std.proofs.Common.{sym, subst, ◌∙◌}
 use Rattle.pcard_print.specs.declared.notation.Notation.{Notation}
 use Rattle.pcard_explain.specs.Layouts.{PrintsRow}

@@ -1,3 +1,4 @@
+-- Removing a part that is as deep as the line keeps the paths around the parts less deep. The last part that stays is around the line.
 use Rattle.std.proofs.Common.{ℕ, ◌-◌, List, length, take, sym, ap, ◌∙◌, arith}
 use Rattle.std.proofs.lemmas.Bool.{ltb-true}
 use Rattle.pcard_explain.specs.Places.{steps_in}

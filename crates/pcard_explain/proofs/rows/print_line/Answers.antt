@@ -1,3 +1,4 @@
+-- The row of a line, as text or as JSON, is that of the definition.
 use Rattle.std.proofs.Common.{sym, ap, subst, ◌∙◌, string_bytes}
 use Rattle.std.specs.Prelude.{codes}
 use Rattle.std.proofs.Output.{if_some_weaken}

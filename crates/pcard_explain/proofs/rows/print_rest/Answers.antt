@@ -1,3 +1,4 @@
+-- The row of the checksum and the row of the remaining bytes are printed, in this order.
 use Rattle.std.proofs.Common.{◌≡◌, ℕ, ◌+◌, List, length, take, drop, sym, ap, subst, ◌∙◌, arith}
 use Rattle.std.specs.Prelude.{Option, OnOk, option_map}
 use Rattle.std.proofs.lemmas.List.{drop_min, take_min}

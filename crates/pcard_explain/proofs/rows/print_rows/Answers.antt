@@ -1,3 +1,4 @@
+-- The rows of the value's lines, and then those after the value, are the rows of the explanation.
 use Rattle.std.proofs.Common.{ℕ, [], length, subst}
 use Rattle.std.specs.Prelude.{option_map}
 use Rattle.std.proofs.lemmas.Result.{on_ok_weaker}

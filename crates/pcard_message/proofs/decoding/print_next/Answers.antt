@@ -1,3 +1,4 @@
+-- The line of a value that was found is printed.
 use Rattle.pcard_message.proofs.decoding.print_next.Goals as goal
 
 pub returns-in_ok-print_value-in-Value-clause-printed : goal.returns-in_ok-print_value-in-Value-clause-printed

@@ -1,3 +1,4 @@
+-- The bytes after the message are those that the answer leaves.
 use Rattle.std.proofs.Common.{refl}
 use Rattle.pcard_message.proofs.ReadingLemmas.{value_next}
 use Rattle.pcard_message.proofs.first.next_message.Goals as goal

@@ -1,3 +1,4 @@
+-- A frame whose code byte is its length has one group, whose data are the bytes after it.
 use Rattle.std.proofs.Common.{◌≡◌, ◌<◌, length, arith}
 use Rattle.std.proofs.lemmas.Grind.{common_steps}
 use Rattle.pcard_message.proofs.ReadingLemmas.{one_group}

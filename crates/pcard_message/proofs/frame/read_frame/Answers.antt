@@ -1,3 +1,4 @@
+-- Without data the bytes are no COBS frame.
 use Rattle.pcard_message.proofs.ReadingLemmas.{no_content}
 use Rattle.pcard_message.proofs.frame.read_frame.Goals as goal
 

@@ -1,3 +1,4 @@
+-- Decoding in place leaves the frame's data in the first bytes, or fails since there is no data.
 use Rattle.pcard_message.proofs.ReadingLemmas.{decoded, undecoded}
 use Rattle.pcard_message.proofs.frame.unpack.Goals as goal
 

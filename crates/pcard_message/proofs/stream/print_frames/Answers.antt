@@ -1,3 +1,4 @@
+-- Each read prints the lines of one piece more. Together they are the lines of all bytes that were read.
 use Rattle.std.proofs.Common.{[], ◌++◌, refl, arith, length-append}
 use Rattle.std.proofs.KnownBytes.{Consumes-nil}
 use Rattle.std.proofs.lemmas.Result.{err_from_is_err_and}

@@ -1,3 +1,4 @@
+-- The lines of one piece that is the whole input.
 use Rattle.std.proofs.lemmas.Result.{on_ok_weaker}
 use Rattle.pcard_message.proofs.StreamLemmas.{one_piece}
 use Rattle.pcard_message.proofs.stream.print_frames_of.Goals as goal

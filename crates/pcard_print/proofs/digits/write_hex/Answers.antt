@@ -1,3 +1,4 @@
+-- Each turn writes the digits of one piece of at most 64 bytes.
 use Rattle.std.proofs.Common.{[], ◌++◌, refl}
 use Rattle.std.proofs.KnownBytes.{Appends-nil}
 use Rattle.pcard_print.proofs.DigitLemmas.{encode_lower-nil, appends-piece, cut_again}

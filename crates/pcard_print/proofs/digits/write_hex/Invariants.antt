@@ -1,3 +1,4 @@
+-- The digits of the bytes before `rest` are written. Each turn makes `rest` shorter.
 use Rattle.std.proofs.Common.{◌≡◌, ◌++◌, ℕ, List, length}
 use Rattle.std.specs.Io.KnownBytes.{Appends}
 use Rattle.hex.specs.Hex.{encode_lower}

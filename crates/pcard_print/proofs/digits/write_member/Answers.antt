@@ -1,3 +1,4 @@
+-- The pieces that are written are the text of the member.
 use Rattle.std.proofs.lemmas.Result.{on_ok_weaker}
 use Rattle.pcard_print.proofs.LineLemmas.{member_appended}
 use Rattle.pcard_print.proofs.digits.write_member.Goals as goal

@@ -1,3 +1,4 @@
+-- The member is the text that the definition gives the path.
 use Rattle.std.proofs.Common.{◌<◌, ◌∙◌, length, arith}
 use Rattle.std.proofs.lemmas.Grind.{common_steps}
 use Rattle.pcard_print.proofs.LineLemmas.{field_shown}

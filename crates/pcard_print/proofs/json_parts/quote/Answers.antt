@@ -1,3 +1,4 @@
+-- Printing a JSON string gives the quoted text.
 use Rattle.std.proofs.Common.{string_bytes}
 use Rattle.std.proofs.lemmas.Result.{IfOk-weaker}
 use Rattle.serde_json.specs.View.{view}

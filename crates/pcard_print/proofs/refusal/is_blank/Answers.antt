@@ -1,3 +1,4 @@
+-- The number of a part is printed as at least one digit.
 use Rattle.pcard_print.proofs.PathLemmas.{number_shown}
 use Rattle.pcard_print.proofs.refusal.is_blank.Goals as goal
 

@@ -1,3 +1,4 @@
+-- A path of two steps or more prints at least one character.
 use Rattle.std.proofs.Common.{◌≤◌, length}
 use Rattle.pcard_print.proofs.PathLemmas.{more_steps}
 use Rattle.pcard_print.proofs.refusal.is_whole.Goals as goal

@@ -1,3 +1,4 @@
+-- The pieces that are written are the line of the refusal.
 use Rattle.std.proofs.KnownBytes.{Appends-trans}
 use Rattle.std.proofs.lemmas.Result.{on_ok_weaker}
 use Rattle.pcard_print.proofs.refusal_line.print_text.Goals as goal

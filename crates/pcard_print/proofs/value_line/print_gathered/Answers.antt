@@ -1,3 +1,4 @@
+-- A text that was gathered is written in one piece, which appends the same bytes.
 use Rattle.std.proofs.lemmas.Result.{on_ok_weaker}
 use Rattle.postcard_value.specs.Tree.{tree}
 use Rattle.postcard_value_text.specs.Layout.{layout_of}

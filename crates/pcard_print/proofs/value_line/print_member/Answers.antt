@@ -1,3 +1,4 @@
+-- If there are bytes, the text that is written is the member of the definition.
 use Rattle.std.proofs.Common.{arith, ◌<◌, length}
 use Rattle.std.proofs.lemmas.Grind.{common_steps}
 use Rattle.std.proofs.lemmas.Result.{on_ok_weaker}

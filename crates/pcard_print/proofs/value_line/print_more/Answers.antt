@@ -1,3 +1,4 @@
+-- If there are bytes, the pieces that are written are the text that the definition gives them.
 use Rattle.std.proofs.Common.{arith, ◌<◌, length}
 use Rattle.std.proofs.lemmas.Grind.{common_steps}
 use Rattle.std.proofs.lemmas.Result.{on_ok_weaker}

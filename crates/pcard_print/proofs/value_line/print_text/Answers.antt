@@ -1,3 +1,4 @@
+-- The pieces that are written are the value's line.
 use Rattle.std.proofs.Common.{Some, [], ◌∷◌, ◌++◌}
 use Rattle.std.proofs.KnownBytes.{Appends-trans}
 use Rattle.std.proofs.lemmas.Result.{on_ok_weaker}

@@ -1,3 +1,4 @@
+-- The line of the value and then that of the bytes after it are written.
 use Rattle.std.proofs.Common.{Some, [], ◌∷◌, ◌++◌}
 use Rattle.std.proofs.KnownBytes.{Appends-trans}
 use Rattle.std.proofs.lemmas.Result.{on_ok_weaker}

@@ -1,5 +1,4 @@
--- The tree is well formed, so its canonical encoding spells it, and no other front of those bytes
--- spells a tree that the type reads.
+-- The tree is well formed, so its canonical encoding is an accepted one. No other prefix of those bytes encodes a tree of the type.
 use Rattle.std.proofs.Common.{sym, subst}
 use Rattle.postcard_wire.specs.Tree.{Tree}
 use Rattle.postcard_wire.proofs.Shortest.{Spells-canonical}

@@ -1,4 +1,4 @@
--- `lend_front` lends the front by a call, or returns the error and ends the loan. Assumes `Logic`.
+-- `lend_front` lends the first bytes of the buffer by a call, or returns the error and ends the loan. Assumes `Logic`.
 use Rattle.postcard_memory.proofs.Steps.{ℕ, MutBor, List, [], ◌∷◌, ◌≡◌, ap, refl, lit<, ‵, raw, ◌⊛◌, some, later, await, pick, tables, ftrue, flft, named, Val, ◌$◌, ◌∵◌, !, qed, move, keep, split, drop, join, fsplit, fsplit3, fjoin, fpick, rewrite, done, enter, alloc_all, pass_all, free_all, look_at, look_in_at, get, get_in, sets, fld, hop, from, stop, agg, lit, addr, and_then, no_more, of_opd, first, branches, skips, exec, at_ret, returns, returns_within, sub, whole, env, plain, no, u8, heard, peeks, shows, use1, use2, Stays, walk_of, stay_dropped, suffices, nothing, MutSlice, slice_val, mut_slice_vals, fact, proved, id⊢, w64, vint, owned, uint_Makes, lands_as, only, calls_at, lasts, triple_of, framed}
 use Rattle.std.proofs.Common.{◌≤◌, ◌<◌, ◌*◌, ◌^◌, ◌++◌, length, take, drop as drop_list, subst, Ok, Err}
 use Rattle.std.proofs.raw_atomic.Walks.{leaves}
@@ -93,7 +93,7 @@ lend_front_spec 𝓤 𝓛 𝓜 𝓡 wired =
     some (λ (ws : Lasts g.ended (κ, tt) (d.all, (n, tt))). ‵ (lasts g.ended (κ, tt) (d.all, (n, tt)) ws) ⊛ ‵ (follows (Array u8 0) (Array u8 0) γ r.ghost_name (λ w. w ++ back)) ⊛
     raw (fact 𝓤 (r.now ≡ take n xs)))))) (id⊢ 𝓤 _) $
     await ! tt $ pick ! (λ r. split ! $ split ! $ move ! (2 ∷ []) $ pick ! (λ ws. split ! $ drop ! $ split ! $ move ! (1 ∷ []) $ heard ! _ (λ gave.
-    -- [what the whole follows; the tokens; the front]
+    -- [what the whole follows; the tokens; the prefix]
     move ! (2 ∷ []) $ peeks ! Own _ (shows 𝓛 Own) r (v ∷ []) (λ isR.
     let fits' : length r.now < 2 ^ 64 = isR.0.1.0 in let w : Val = slice_val r.ref_ptr (length r.now) in
     lands_as ! (ap only isR.0.0) refl (tt, (tt, (record { fits = fits' }, tt))) $

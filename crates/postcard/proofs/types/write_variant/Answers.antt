@@ -1,4 +1,4 @@
--- The variant of a value is written: from what the call wrote to what is written of the value.
+-- The tree of the value is that of its variant, so what the call wrote is the value's encoding.
 use Rattle.std.proofs.lemmas.Result.{on_ok_weaker}
 use Rattle.postcard_ser.proofs.PartByPart.{wrote_as}
 use Rattle.postcard.proofs.types.write_variant.Goals as goal

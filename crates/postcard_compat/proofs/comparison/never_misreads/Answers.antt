@@ -1,4 +1,4 @@
--- A type that serves the old type, and the new type or its front, is the common one.
+-- The type that `both` found serves the old type, and the new type or its first parts. So the new type never misreads.
 use Rattle.postcard_schema.specs.Meaning.{type_of}
 use Rattle.postcard_compat.proofs.Verdicts.{front_never_misreads, never_of_both}
 use Rattle.postcard_compat.proofs.comparison.never_misreads.Goals as goal

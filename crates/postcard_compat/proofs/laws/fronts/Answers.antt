@@ -1,3 +1,4 @@
+-- The clauses are lemmas of `Fronts`.
 use Rattle.postcard_compat.proofs.Fronts.{none_front, then_front, group_front}
 use Rattle.postcard_compat.proofs.laws.fronts.Goals as goal
 

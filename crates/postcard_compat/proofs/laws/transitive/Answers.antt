@@ -1,3 +1,4 @@
+-- The clauses are lemmas of `Consequences`.
 use Rattle.postcard_compat.proofs.Consequences.{reflexive, transitive}
 use Rattle.postcard_compat.proofs.laws.transitive.Goals as goal
 

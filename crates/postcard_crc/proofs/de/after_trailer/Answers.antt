@@ -1,4 +1,4 @@
--- The rest is what it begins with, and then what follows.
+-- `rest` is the trailer and then the bytes after it.
 use Rattle.std.proofs.Common.{ℕ, List, ◌++◌, length, sym, ap₂, ◌∙◌, take-append-drop}
 use Rattle.postcard_crc.proofs.Split.{begins_with, follows}
 use Rattle.postcard_crc.proofs.de.after_trailer.Goals as goal

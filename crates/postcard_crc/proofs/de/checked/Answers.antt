@@ -1,4 +1,4 @@
--- The rest begins with the checksum of the bytes before it.
+-- `rest` begins with the checksum of the bytes before it.
 use Rattle.std.proofs.Common.{◌≡◌, ◌++◌, ap, ◌∙◌}
 use Rattle.std.proofs.lemmas.Result.{IfOk-weaker}
 use Rattle.crc.specs.Checked.{low_bytes}

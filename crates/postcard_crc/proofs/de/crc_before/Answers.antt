@@ -1,4 +1,4 @@
--- The bytes before the rest are the front.
+-- The bytes before `rest` are those that the value was read from.
 use Rattle.std.proofs.Common.{◌++◌, subst}
 use Rattle.crc.specs.Digest.{Took}
 use Rattle.postcard_crc.proofs.Split.{front_of}

@@ -1,4 +1,4 @@
--- The value that was read, or why none was.
+-- `from_bytes` returns the value that `take_from_bytes` read, or its error.
 use Rattle.postcard_de_nodes.specs.ReadLemmas.{is_refusal}
 use Rattle.postcard_crc.proofs.de.from_bytes.Goals as goal
 

@@ -1,4 +1,4 @@
--- The value that was read, with nothing after its checksum.
+-- `from_bytes_whole` returns the value that `take_from_bytes` read if no bytes are left, and else `DeserializeBadEncoding`.
 use Rattle.std.proofs.Common.{◌++◌, [], inl, inr, refl, ap, subst, sym, ◌∙◌, append-nil}
 use Rattle.postcard_de_nodes.specs.ReadLemmas.{is_refusal}
 use Rattle.postcard_wire.specs.Spelling.{canonical}

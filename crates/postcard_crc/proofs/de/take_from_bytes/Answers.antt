@@ -1,5 +1,4 @@
--- The front is followed by its checksum, so the check succeeds; what was read to its end is a checked
--- message.
+-- If its checksum follows the prefix, the check succeeds. Bytes that are read to their end are a message with its checksum.
 use Rattle.std.proofs.Common.{◌++◌, sym, ap, ◌∙◌, append_assoc}
 use Rattle.postcard_wire.specs.Spelling.{canonical}
 use Rattle.postcard_shape.specs.Shape.{Grows}

@@ -1,4 +1,4 @@
--- The front of the bytes of a wider number.
+-- The trailer is the first bytes of the checksum as a number of 128 bits.
 use Rattle.std.proofs.Common.{◌≡◌, ◌/◌, ◌≤◌, take, ap, ◌∙◌, arith}
 use Rattle.crc.specs.Checked.{low_bytes}
 use Rattle.postcard_crc.proofs.Bytes.{front_bytes}

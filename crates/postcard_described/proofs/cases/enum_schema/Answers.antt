@@ -1,3 +1,4 @@
+-- The variants of the schema are those that `push_cases` appended to an empty list.
 use Rattle.std.proofs.Common.{◌++◌, ap, map, ◌∙◌}
 use Rattle.postcard_described.specs.{first_text, names_of}
 use Rattle.postcard_described.proofs.cases.enum_schema.Goals as goal

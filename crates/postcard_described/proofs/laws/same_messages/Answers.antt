@@ -1,3 +1,4 @@
+-- Sets of trees with the same encodings have the same messages (`Readers`).
 use Rattle.postcard_described.specs.Within.{within_same}
 use Rattle.postcard_described.proofs.Readers.{message_inside}
 use Rattle.postcard_described.proofs.laws.same_messages.Goals as goal

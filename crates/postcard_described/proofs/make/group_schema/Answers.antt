@@ -1,3 +1,4 @@
+-- If there is a name for each part, the struct has these names.
 use Rattle.std.proofs.Common.{refl}
 use Rattle.postcard_described.proofs.make.group_schema.Goals as goal
 

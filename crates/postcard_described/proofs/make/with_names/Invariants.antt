@@ -1,4 +1,4 @@
--- The parts so far have the first names, if there are as many names as parts, and the others are left.
+-- If there is a name for each part, the parts so far have the first names, and the others are left.
 use Rattle.std.proofs.Common.{◌≡◌, ◌++◌, length, map, take}
 use Rattle.postcard_described.specs.{contents, names_of, text_of}
 use Rattle.postcard_described.proofs.make.with_names.Given as goal

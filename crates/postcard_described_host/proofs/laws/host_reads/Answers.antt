@@ -1,3 +1,4 @@
+-- Two readers of sets of trees with the same encodings read the same messages (`Readers`).
 use Rattle.postcard_described.specs.Within.{within_same}
 use Rattle.postcard_described_host.proofs.Readers.{all_agree, values_agree}
 use Rattle.postcard_described_host.proofs.laws.host_reads.Goals as goal

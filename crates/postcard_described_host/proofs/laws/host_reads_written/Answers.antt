@@ -1,3 +1,4 @@
+-- The tree that was written is one of the schema, so the host reads it and writes the same bytes (`Readers`).
 use Rattle.postcard_described.specs.Within.{within_same}
 use Rattle.postcard_described_host.proofs.Readers.{written_agrees, written_back}
 use Rattle.postcard_described_host.proofs.laws.host_reads_written.Goals as goal

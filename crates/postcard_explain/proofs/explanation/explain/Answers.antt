@@ -1,3 +1,5 @@
+-- The lines that the walk added, with a line of the bytes after the value, have each byte. If the walk stopped, its last line has the bytes
+-- from there on.
 use Rattle.postcard_explain.proofs.LineLemmas.{all_explained, all_bytes, all_refused}
 use Rattle.postcard_explain.proofs.explanation.explain.Goals as goal
 

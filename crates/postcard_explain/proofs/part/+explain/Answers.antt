@@ -1,3 +1,5 @@
+-- The mutually recursive walk over a value, by the kind of its schema. The lines of a whole are its own line and then those of its parts.
+-- If a part can't be read, the walk stops with the lines up to that part (`LineLemmas`).
 use Rattle.std.proofs.Common.{◌≡◌, ◌+◌, ◌-◌, ◌<◌, ◌≤◌, [], ◌∷◌, ◌++◌, length, take, take_all, get_or, refl, sym, ap, subst, ◌∙◌, Ok, Err, inl, inr, arith, append_assoc, append-nil}
 use Rattle.std.proofs.lemmas.Grind.{common_steps}
 use Rattle.std.proofs.lemmas.List.{take_more}

@@ -1,5 +1,5 @@
 -- Why the functions end: how deep types are nested, and the order of the functions at one depth. The lines so far explain the items or
--- parts so far, and their bytes are those before the rest.
+-- parts so far. Their bytes are those before `rest`.
 use Rattle.std.proofs.Common.{◌≡◌, ℕ, ◌+◌, ◌*◌, ◌-◌, ◌≤◌, List, ◌++◌, take}
 use Rattle.postcard_schema.specs.Bounds.{depth}
 use Rattle.postcard_schema.specs.Meaning.{type_of}

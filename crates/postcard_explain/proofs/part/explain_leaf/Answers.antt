@@ -1,3 +1,4 @@
+-- A value without parts is read, and its line added, or it is refused.
 use Rattle.std.proofs.Common.{refl, sym, ◌∙◌, append-nil}
 use Rattle.postcard_explain.specs.declared.line.Expected.TheVariants as expectations
 use Rattle.postcard_explain.specs.Explained.{of_leaf}

@@ -1,3 +1,4 @@
+-- An entry is skipped as its key and then its value.
 use Rattle.std.proofs.Common.{◌++◌, sym, ap, ◌∙◌, append_assoc}
 use Rattle.std.proofs.lemmas.Result.{IfOk-weaker}
 use Rattle.postcard_schema.specs.Meaning.{type_of}

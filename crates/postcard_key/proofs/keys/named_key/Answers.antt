@@ -1,3 +1,4 @@
+-- The digest took the text with names from the start, so its checksum is the key.
 use Rattle.std.proofs.Common.{[], subst}
 use Rattle.crc.specs.Digest.{Took}
 use Rattle.postcard_key.specs.Keys.{xz}

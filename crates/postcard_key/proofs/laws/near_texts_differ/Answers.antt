@@ -1,3 +1,4 @@
+-- CRC-64 detects each burst of at most 64 bits. So texts with one key that differ within such a burst are equal, and so are their types.
 use Rattle.std.proofs.Common.{true}
 use Rattle.crc.specs.Crc.{message}
 use Rattle.crc.proofs.CheckedLemmas.{messages_agree, no_burst_between}

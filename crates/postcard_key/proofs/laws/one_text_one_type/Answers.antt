@@ -1,3 +1,4 @@
+-- The law is the lemma of `OneText`.
 use Rattle.postcard_key.proofs.OneText.{one_text}
 use Rattle.postcard_key.proofs.laws.one_text_one_type.Goals as goal
 

@@ -1,3 +1,4 @@
+-- Equal types have equal texts, and a text has one checksum.
 use Rattle.std.proofs.Common.{sym, subst}
 use Rattle.crc.proofs.CheckedLemmas.{one_crc}
 use Rattle.postcard_schema.specs.Meaning.{type_of}

@@ -1,3 +1,4 @@
+-- The digest has taken the text of each kind of type: the signs, and the texts of the parts in a row (`Steps`).
 use Rattle.std.proofs.Common.{◌≡◌, ◌+◌, ◌<◌, [], ◌∷◌, ◌++◌, length, drop, sym, ap, ◌∙◌, arith}
 use Rattle.std.specs.Prelude.{codes}
 use Rattle.std.proofs.lemmas.List.{drop_all, drop_more}

@@ -1,4 +1,4 @@
--- What takes the text of the parts from the loop's place on has taken that of the whole type.
+-- The text taken so far, followed by that of the parts from the loop's place on, is that of the whole type.
 use Rattle.std.proofs.Common.{◌++◌, drop}
 use Rattle.std.specs.Prelude.{codes}
 use Rattle.crc.specs.Digest.{Progress}

@@ -1,3 +1,4 @@
+-- The digest has taken the text of each kind of type: the signs, and the texts of the parts in a row (`Steps`).
 use Rattle.std.proofs.Common.{◌≡◌, ◌+◌, ◌∷◌, drop, sym, ap, ◌∙◌, arith}
 use Rattle.std.proofs.lemmas.List.{drop_more}
 use Rattle.postcard_schema.specs.Lemmas.{type_of_array, type_of_enum, type_of_map, type_of_option, type_of_seq, type_of_struct}

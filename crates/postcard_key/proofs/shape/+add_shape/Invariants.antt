@@ -1,4 +1,4 @@
--- What takes the text of the types from the loop's place on has taken that of the whole type.
+-- The text taken so far, followed by that of the types from the loop's place on, is that of the whole type.
 use Rattle.std.proofs.Common.{drop}
 use Rattle.crc.specs.Digest.{Progress}
 use Rattle.postcard_schema.specs.Meaning.{choice, contents, group, types_of}

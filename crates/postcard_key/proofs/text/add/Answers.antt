@@ -1,3 +1,4 @@
+-- The bytes of the string are added to what the digest has taken.
 use Rattle.postcard_key.proofs.Steps.{with_text}
 use Rattle.postcard_key.proofs.text.add.Goals as goal
 

@@ -1,3 +1,4 @@
+-- The name of a number at its full width is added in pieces: the wrapper, `<`, the number's type and `>`.
 use Rattle.std.proofs.Common.{sym}
 use Rattle.postcard_key.proofs.Steps.{then_text}
 use Rattle.postcard_key.proofs.text.add_leaf.Goals as goal

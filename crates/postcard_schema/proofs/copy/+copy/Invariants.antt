@@ -1,4 +1,4 @@
--- The copies so far say what the parts so far say.
+-- The copies so far have the types and names of the parts so far.
 use Rattle.std.proofs.Common.{◌≡◌, map, take}
 use Rattle.postcard_schema.specs.Meaning.{type_of}
 use Rattle.postcard_schema.specs.Views.{named, view}

@@ -1,3 +1,4 @@
+-- `has_bytes` decides a tuple and a struct part by part. A part without bytes leaves the decision to those after it.
 use Rattle.std.proofs.Common.{◌≡◌, ◌+◌, false, ◌∷◌, drop, refl, sym, ap, ◌∙◌, arith}
 use Rattle.std.proofs.lemmas.List.{drop_more}
 use Rattle.postcard_schema.specs.Meaning.{MessageType, MessageTypes, contents, has_bytes, some_has_bytes, type_of, types_of, then_type}

@@ -1,3 +1,4 @@
+-- `begins_field` is right in each case: a word and then `:` or not, or no word.
 use Rattle.std.proofs.Common.{◌≡◌, ◌<◌, false, not, length, refl, arith}
 use Rattle.std.proofs.lemmas.Grind.{common_steps}
 use Rattle.postcard_schema_text.specs.FrontLemmas.{word_taken}

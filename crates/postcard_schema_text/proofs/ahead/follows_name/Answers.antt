@@ -1,3 +1,4 @@
+-- `follows_name` is right by the first byte after the blanks, or since the text ends.
 use Rattle.std.proofs.Common.{◌≡◌, [], arith}
 use Rattle.std.proofs.lemmas.Grind.{common_steps}
 use Rattle.postcard_schema_text.proofs.Heads.{name_if, name_unless}

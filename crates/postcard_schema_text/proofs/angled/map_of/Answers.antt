@@ -1,3 +1,4 @@
+-- The map that `map_of` makes is the one that the grammar names, and its entries have bytes.
 use Rattle.std.proofs.Common.{◌≡◌, true, ◌⊎◌, refl, sym, ◌∙◌, inl, inr}
 use Rattle.postcard_schema.specs.Meaning.{has_bytes, type_of}
 use Rattle.postcard_schema_text.proofs.AngledSchemas.{entry_full}

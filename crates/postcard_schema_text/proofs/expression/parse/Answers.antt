@@ -1,3 +1,4 @@
+-- What `parse` returns is bounded, since each type of the grammar is (`Bounded`).
 use Rattle.postcard_schema_text.proofs.Bounded.{type_bounded}
 use Rattle.postcard_schema_text.proofs.expression.parse.Goals as goal
 

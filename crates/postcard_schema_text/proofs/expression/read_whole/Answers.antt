@@ -1,3 +1,4 @@
+-- `read_whole` reads the one type of an expression. An expression is a type and then blanks, so what follows a type must be blanks.
 use Rattle.std.proofs.Common.{◌≡◌, ℕ, [], ◌++◌, List, ap, sym, ◌∙◌, arith, inl, inr}
 use Rattle.std.proofs.lemmas.Grind.{common_steps}
 use Rattle.std.proofs.lemmas.List.{append-nil}

@@ -1,3 +1,4 @@
+-- `are_digits` is right: the bytes are digits without their `_`, and at least one is left.
 use Rattle.std.proofs.Common.{not, sym, ap, ◌∙◌, true≢false}
 use Rattle.postcard_schema_text.specs.LiteralLemmas.{of_digits}
 use Rattle.postcard_schema_text.proofs.Literals.{digits_left, none_left, some_left}

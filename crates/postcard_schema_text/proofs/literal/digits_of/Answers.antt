@@ -1,3 +1,4 @@
+-- `digits_of` computes the number digit by digit. If it passes 2^128 on the way, the whole number does, too.
 use Rattle.std.proofs.Common.{◌+◌, ◌≤◌, ◌^◌, drop, get_or, refl, arith}
 use Rattle.std.proofs.lemmas.List.{at_drop_more}
 use Rattle.std.specs.Str.Parse.{digits_value, digits_value_after}

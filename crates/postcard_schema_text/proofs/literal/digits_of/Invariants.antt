@@ -1,4 +1,4 @@
--- The number so far and the digits that are left spell the number of all of them.
+-- The number so far and the remaining digits denote the number of all digits.
 use Rattle.std.proofs.Common.{◌≡◌, drop}
 use Rattle.std.specs.Str.Parse.{digits_value, digits_value_after}
 use Rattle.postcard_schema_text.specs.Literals.{without_underscores}

@@ -1,3 +1,4 @@
+-- If `number_of` fails, the word is no literal of a number below 2^128, with a letter of a radix or without one.
 use Rattle.std.proofs.Common.{◌≡◌, ◌≢◌, ◌≤◌, get_or, subst, rules}
 use Rattle.std.specs.Prelude.{IfErr}
 use Rattle.postcard_schema_text.specs.Literals.{AreDigits, radix_of, IsNoNumber}

@@ -1,3 +1,4 @@
+-- The clauses of `expect` are those of `take`.
 use Rattle.postcard_schema_text.proofs.scan.expect.Goals as goal
 
 pub returns-clause-none : goal.returns-clause-none

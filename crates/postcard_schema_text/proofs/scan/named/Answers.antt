@@ -1,3 +1,4 @@
+-- `named` keeps the bytes of the name. It is refused only for a name that isn't UTF-8, which no word is.
 use Rattle.std.proofs.Common.{refl, ◌∙◌, inr}
 use Rattle.postcard_schema_text.specs.FrontLemmas.{word_utf8}
 use Rattle.postcard_schema_text.proofs.scan.named.Goals as goal

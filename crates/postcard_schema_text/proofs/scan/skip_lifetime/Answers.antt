@@ -1,3 +1,4 @@
+-- `skip_lifetime` takes a `'` and the word after it. Without a `'` it takes nothing, and without a name no lifetime is there.
 use Rattle.std.proofs.Common.{refl, sym, ◌∙◌, true≢false, inl, inr}
 use Rattle.postcard_schema_text.specs.FrontLemmas.{word_taken}
 use Rattle.postcard_schema_text.proofs.LeftOfReference.{lifetime_name}

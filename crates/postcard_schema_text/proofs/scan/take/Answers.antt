@@ -1,3 +1,4 @@
+-- `take` compares the first byte after the blanks. If it is another, no phrase of the sign begins the text.
 use Rattle.std.proofs.Common.{◌≡◌, ◌∷◌, ◌∙◌, sym, arith}
 use Rattle.std.proofs.lemmas.Grind.{common_steps}
 use Rattle.postcard_schema_text.specs.Phrases.{sign_takes}

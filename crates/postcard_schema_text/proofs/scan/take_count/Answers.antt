@@ -1,3 +1,4 @@
+-- `take_count` takes one word. The word denotes the count, and a word that it refuses denotes no count below 2^64.
 use Rattle.std.proofs.Common.{◌≡◌, ◌<◌, ◌^◌, arith, subst, ◌∙◌}
 use Rattle.postcard_schema_text.specs.Literals.{IsLiteral}
 use Rattle.postcard_schema_text.specs.Text.{IsWord, IsCount}

@@ -1,3 +1,4 @@
+-- `take_word` takes blanks and all bytes of a word, and stops at the first other byte.
 use Rattle.std.proofs.Common.{◌≡◌, ◌<◌, false, length, get_or, refl, arith}
 use Rattle.std.proofs.lemmas.Grind.{common_steps}
 use Rattle.std.specs.List.{AllPass}

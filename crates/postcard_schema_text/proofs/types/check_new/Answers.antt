@@ -1,3 +1,4 @@
+-- `check_new` compares the name with those before, one after the other.
 use Rattle.std.proofs.Common.{◌≡◌, ◌<◌, take, length, arith, sym, ◌∙◌}
 use Rattle.std.specs.Prelude.{string_bytes}
 use Rattle.std.proofs.lemmas.Grind.{common_steps}

@@ -1,4 +1,4 @@
--- Where the sign isn't taken, no front of the text is it.
+-- If `take` returns `false`, the next sign of the text is not `<`.
 use Rattle.std.specs.Prelude.{refl}
 use Rattle.postcard_schema_text.proofs.types.open_angle.Goals as goal
 

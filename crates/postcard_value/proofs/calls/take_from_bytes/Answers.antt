@@ -1,4 +1,4 @@
--- If a front of the input spells a tree of the type, that front can be taken, and the bytes after it are left.
+-- If a prefix of the input encodes a tree of the type, that prefix can be taken, and the bytes after it are left.
 use Rattle.std.proofs.Common.{◌≡◌, ◌≤◌, ℕ, List, ◌++◌, length}
 use Rattle.std.proofs.Common.{sym, ◌∙◌, ap, arith, length-append}
 use Rattle.std.proofs.lemmas.List.{append_cancel_left}
@@ -10,7 +10,7 @@ use Rattle.postcard_value.specs.Tree.{tree}
 use Rattle.postcard_value.specs.TypeLaws.{type_well_formed}
 use Rattle.postcard_value.proofs.calls.take_from_bytes.Goals as goal
 
--- A list has at least as many bytes as its front.
+-- A list is at least as long as each of its prefixes.
 long_enough : (bytes front rest : List ℕ) → bytes ≡ front ++ rest → length front ≤ length bytes
 long_enough bytes front rest e = omega (arith, ap length e, length-append front rest)
 

@@ -1,3 +1,4 @@
+-- The law is a lemma of `TypeLaws`.
 use Rattle.postcard_value.specs.TypeLaws.{type_well_formed}
 use Rattle.postcard_value.proofs.laws.well_formed.Goals as goal
 

@@ -1,3 +1,4 @@
+-- The bits that are read are those of the number in the tree, for each width and sign.
 use Rattle.std.proofs.Common.{◌∙◌, refl}
 use Rattle.std.specs.Int.{w16, w32, w64, w128}
 use Rattle.postcard_de_nodes.specs.SeenLemmas.{seen_as}

@@ -1,3 +1,4 @@
+-- The bytes of the number with the bits above its width removed are those of the bits.
 use Rattle.postcard_shape.proofs.Bytes.{bytes_of_bytes}
 use Rattle.postcard_value.specs.NumberLemmas.{spell_modulo}
 use Rattle.postcard_value.proofs.numbers.write_bits.Goals as goal

@@ -1,3 +1,4 @@
+-- A type without parts stops at its first node, and an array in one of its elements.
 use Rattle.std.proofs.Common.{refl}
 use Rattle.std.proofs.lemmas.Result.{IfOk-weaker}
 use Rattle.postcard_value.specs.Refused.{at_leaf}

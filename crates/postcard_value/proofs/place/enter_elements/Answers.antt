@@ -1,3 +1,4 @@
+-- The elements before the loop's place were read. So the first that can't be read is the one at that place.
 use Rattle.std.proofs.Common.{[], ◌++◌, refl, sym, ap, ◌∙◌, append_assoc}
 use Rattle.postcard_wire.specs.Tree.{NoTrees}
 use Rattle.postcard_schema.specs.Meaning.{type_of}

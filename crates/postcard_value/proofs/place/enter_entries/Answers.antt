@@ -1,3 +1,4 @@
+-- The entries before the loop's place were read. So the first part that can't be read is in the entry at that place.
 use Rattle.std.proofs.Common.{[], ◌++◌, refl, sym, ap, ◌∙◌, append_assoc}
 use Rattle.postcard_wire.specs.Tree.{NoTrees}
 use Rattle.postcard_schema.specs.Meaning.{entry_of, type_of}

@@ -1,3 +1,4 @@
+-- The count was read, and then reading stops in an element. Or the count itself can't be read.
 use Rattle.std.proofs.Common.{inl, refl}
 use Rattle.std.proofs.lemmas.Result.{IfOk-weaker}
 use Rattle.postcard_wire.specs.Tree.{Num}

@@ -1,3 +1,4 @@
+-- The first byte is 1, and reading stops in the content. Or the first byte itself can't be read.
 use Rattle.std.proofs.Common.{◌≡◌, [], ◌∷◌, length, refl, sym, ap, ◌∙◌, arith, append-nil}
 use Rattle.std.proofs.lemmas.Grind.{common_steps}
 use Rattle.postcard_value.specs.Refused.{at_flag, in_option}

@@ -1,3 +1,4 @@
+-- The fields before the loop's place were read. The first that can't be read is the part that is returned.
 use Rattle.std.proofs.Common.{◌≡◌, ◌<◌, [], ◌∷◌, ◌++◌, length, take, take_all, sym, ap, ◌∙◌, arith, append_assoc}
 use Rattle.postcard_schema.specs.declared.path.Step.TheVariants.{Name}
 use Rattle.postcard_value.specs.Refused.{in_struct}

@@ -1,3 +1,4 @@
+-- The parts before the loop's place were read. The first that can't be read is the part that is returned.
 use Rattle.std.proofs.Common.{◌≡◌, ◌<◌, [], ◌∷◌, ◌++◌, length, take, take_all, sym, ap, ◌∙◌, arith, append_assoc}
 use Rattle.postcard_schema.specs.declared.path.Step.TheVariants.{Part}
 use Rattle.postcard_value.specs.Refused.{in_tuple}

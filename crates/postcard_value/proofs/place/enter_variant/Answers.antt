@@ -1,3 +1,4 @@
+-- The index was read, and then reading stops in the variant's content. Or the index itself can't be read.
 use Rattle.std.proofs.Common.{◌≡◌, ◌<◌, ◌+◌, [], ◌∷◌, length, get_or, refl, arith}
 use Rattle.std.proofs.lemmas.Grind.{common_steps}
 use Rattle.postcard_wire.specs.Tree.{Num}

@@ -1,3 +1,4 @@
+-- Each turn goes one level deeper, to a part that stops where the whole stops. The last part stops at its first node.
 use Rattle.std.proofs.Common.{◌≡◌, ◌+◌, ◌++◌, length, sym, ap, ◌∙◌, arith, append_assoc, length-append}
 use Rattle.postcard_value.proofs.PlaceLemmas.{some_found, none_found, stops_inside, stops_here}
 use Rattle.postcard_value.proofs.place.refused_at.Goals as goal

@@ -1,3 +1,5 @@
+-- The mutually recursive readers of values, by the kind of the schema. Reading a value reads a tree of its type. The result of a whole
+-- comes from those of its parts, read in order (`Rows`).
 use Rattle.std.proofs.Common.{◌≡◌, suc, ◌+◌, ◌-◌, ◌<◌, List, map, length, drop, refl, sym, ap, ◌∙◌, arith, rules}
 use Rattle.std.proofs.lemmas.Grind.{common_steps}
 use Rattle.std.proofs.lemmas.List.{drop_all}

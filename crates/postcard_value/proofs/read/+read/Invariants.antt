@@ -1,4 +1,4 @@
--- What each loop has read so far, and how the result of reading the rest makes the result of reading all.
+-- What each loop has read so far, and how the result of reading the remaining parts gives the result of reading all.
 use Rattle.std.proofs.Common.{◌-◌, drop}
 use Rattle.postcard_shape.specs.Lists.{AreRead}
 use Rattle.postcard_de.specs.Deserializer.{source_of}

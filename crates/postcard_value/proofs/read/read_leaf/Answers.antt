@@ -1,3 +1,4 @@
+-- The node that is read is of the type, and the value has the tree that was read.
 use Rattle.std.proofs.Common.{◌≡◌, map, sym, ◌∙◌, rules}
 use Rattle.postcard_wire.specs.Tree.{Byte, Seq, trees}
 use Rattle.postcard_de_nodes.specs.SeenLemmas.{recast, seen_as}

@@ -1,3 +1,4 @@
+-- Each kind of value writes the canonical encoding of its tree: its own bytes first, and then its parts in order.
 use Rattle.std.proofs.Common.{◌≡◌, ◌<◌, length, Err, Ok, [], ◌∷◌, vec_len, arith, subst, rules}
 use Rattle.std.specs.Prelude.{map}
 use Rattle.std.proofs.lemmas.Grind.{common_steps}

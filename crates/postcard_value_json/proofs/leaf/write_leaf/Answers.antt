@@ -1,3 +1,4 @@
+-- The JSON of a byte string, and that of a number at its full width by the bits of its bytes.
 use Rattle.std.proofs.Common.{◌≡◌, ℕ, ◌%◌, ◌^◌, Some, map, sym, ap, ◌∙◌, rules}
 use denote.Enum.Bare.{differs_false}
 use Rattle.hex.specs.Hex.{encode_lower}

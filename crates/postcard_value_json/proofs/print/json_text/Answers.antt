@@ -1,3 +1,4 @@
+-- Escaping control characters changes no token of the text. So the text still reads back as the same JSON.
 use Rattle.std.proofs.Common.{string_bytes, sym, ap, ◌∙◌}
 use Rattle.std.proofs.lemmas.Result.{IfOk-weaker}
 use Rattle.json.specs.Print.{print}

@@ -1,3 +1,4 @@
+-- Each character is printed as itself or as its escape. A plain text has no control characters, so it is unchanged.
 use Rattle.std.proofs.Common.{flat_map, nat_lt, subst, sym, ap, ◌∙◌, map-id}
 use Rattle.std.specs.List.{AllPass}
 use Rattle.std.proofs.lemmas.Result.{IfOk-weaker}

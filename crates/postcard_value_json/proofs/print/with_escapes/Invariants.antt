@@ -1,3 +1,4 @@
+-- The text so far has the characters before the loop's place, escaped.
 use Rattle.std.proofs.Common.{◌≡◌, flat_map, string_bytes}
 use Rattle.postcard_value_json.specs.Escaped.{escaped_char}
 use Rattle.postcard_value_json.proofs.print.with_escapes.Given as goal

@@ -1,3 +1,4 @@
+-- The mutually recursive writers of JSON, by the kind of the schema. The JSON of a whole is made of that of its parts in order.
 use Rattle.std.proofs.Common.{◌≡◌, ◌<◌, true, false, [], ◌∷◌, map, take, length, vec_len, get_or, string_bytes, Some, is_some, nat_cmp, sym, ap, ◌∙◌, add-one, take_all, arith, rules}
 use Rattle.std.specs.Bool.{◌==◌}
 use Rattle.std.specs.BTreeMap.{is_at}

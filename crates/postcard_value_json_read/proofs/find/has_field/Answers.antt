@@ -1,3 +1,4 @@
+-- No field before the loop's place has the name.
 use Rattle.std.proofs.Common.{◌≡◌, take, arith, sym, ◌∙◌}
 use Rattle.std.proofs.lemmas.Grind.{common_steps}
 use Rattle.std.proofs.lemmas.List.Elements.{All-more}

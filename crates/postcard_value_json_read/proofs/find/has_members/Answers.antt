@@ -1,3 +1,4 @@
+-- The members of an object as the program sees it are those of the JSON.
 use Rattle.std.proofs.Common.{◌≡◌, sym, ◌∙◌, true≢false}
 use Rattle.std.proofs.lemmas.Bool.Decides.{Decides-eqb}
 use Rattle.serde_json.specs.Data.{object}

@@ -1,3 +1,4 @@
+-- The JSON has the form of no variant before the loop's place.
 use Rattle.std.proofs.Common.{◌≡◌, get_or}
 use Rattle.serde_json.specs.View.{view}
 use Rattle.postcard_value_json_read.proofs.Variants.{none_more}

@@ -1,3 +1,4 @@
+-- A variant of the unit is a string, and any other an object with one member.
 use Rattle.std.proofs.Common.{◌≡◌, string_bytes, sym, ap, ◌∙◌, inl, inr}
 use Rattle.serde_json.specs.Data.{string}
 use Rattle.serde_json.specs.View.{view}

@@ -1,3 +1,4 @@
+-- The JSON is an array of the wanted length if and only if its items are returned.
 use Rattle.std.proofs.Common.{◌≡◌, length, vec_len, sym, ap, ◌∙◌, arith}
 use Rattle.std.proofs.lemmas.Grind.{common_steps}
 use Rattle.serde_json.specs.Data as values

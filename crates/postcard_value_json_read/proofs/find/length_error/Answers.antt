@@ -1,3 +1,4 @@
+-- The error names a field that the object lacks, if there is one.
 use Rattle.serde_json.specs.View.{view}
 use Rattle.postcard_value_json_read.proofs.LengthErrors.{missing_error}
 use Rattle.postcard_value_json_read.proofs.find.length_error.Goals as goal

@@ -1,3 +1,4 @@
+-- Each field before the loop's place has a member.
 use Rattle.std.proofs.Common.{◌≡◌, Some, get_or, is_some, true, false, string_bytes, take, arith, sym, ◌∙◌, ap, rules}
 use Rattle.std.proofs.lemmas.Grind.{common_steps}
 use Rattle.std.proofs.lemmas.List.Elements.{All-more}

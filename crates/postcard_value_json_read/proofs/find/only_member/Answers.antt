@@ -1,3 +1,4 @@
+-- An object with one member has the wanted one if and only if looking it up finds it.
 use Rattle.std.proofs.Common.{◌≡◌, sym, ◌∙◌}
 use Rattle.serde_json.specs.Data.{object}
 use Rattle.serde_json.specs.View.{view, members_view}

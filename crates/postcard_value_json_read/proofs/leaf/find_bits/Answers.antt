@@ -1,3 +1,4 @@
+-- The number that the JSON is has bits of the type if and only if it is in the type's range.
 use Rattle.std.proofs.Common.{◌≡◌, ℕ, ℤ, ◌<◌, ◌^◌, ◌∙◌, true, false, Option, Some, None, sym, subst, arith}
 use Rattle.std.specs.Prelude.{IfSome, IfNone, MatchOption}
 use Rattle.std.specs.Int.{w128}

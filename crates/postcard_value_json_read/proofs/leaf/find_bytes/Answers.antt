@@ -1,3 +1,4 @@
+-- A string of hexadecimal digits denotes the bytes that are decoded, and no other string does.
 use Rattle.std.proofs.Common.{◌≡◌, ℕ, ◌<◌, ◌^◌, List, length, refl, sym, subst, ◌∙◌, arith, rules}
 use Rattle.std.specs.Prelude.{Ok, slice_index}
 use Rattle.hex.specs.Hex.{decode_of}

@@ -1,3 +1,4 @@
+-- A string denotes a character if and only if it has just this one.
 use Rattle.std.proofs.Common.{◌≡◌, refl, sym, ap, ◌∙◌, rules}
 use Rattle.std.specs.Char.{encode_utf8, IsScalar}
 use Rattle.postcard_wire.specs.Tree as nodes

@@ -1,3 +1,4 @@
+-- The value has the tree of a number at its full width, since its bits are those of the JSON. Without bits there is no value.
 use Rattle.std.proofs.Common.{◌≡◌, refl, rules}
 use Rattle.postcard_schema.specs.Leaves.{is_signed, size_of}
 use Rattle.postcard_schema.specs.declared.leaf.Leaf.TheVariants as leaves

@@ -1,3 +1,4 @@
+-- The value has the tree of a float, since its bits are those of the JSON. Without bits there is no value.
 use Rattle.std.proofs.Common.{◌≡◌, refl, rules}
 use Rattle.postcard_schema.specs.Leaves.{float_size}
 use Rattle.postcard_schema.specs.declared.leaf.ByteOrder.TheVariants.{Little}

@@ -1,3 +1,4 @@
+-- The clauses for integers, floats and numbers at full width are those of the functions `find_..` for them.
 use Rattle.postcard_value_json_read.proofs.leaf.find_leaf.Goals as goal
 
 pub returns-in-Integer : goal.returns-in-Integer

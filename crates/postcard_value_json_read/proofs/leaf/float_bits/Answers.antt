@@ -1,3 +1,4 @@
+-- A JSON number gives the nearest float. A string is read as a float's text, up to its end.
 use Rattle.std.proofs.Common.{◌≡◌, [], length, sym, ap, subst, ◌∙◌, true≢false}
 use Rattle.std.specs.Bool.{◌==◌}
 use Rattle.postcard_value_text.specs.Floats.{SpellsFloat, format_of}

@@ -1,3 +1,4 @@
+-- The bytes before the loop's place are no line feed, so the line that ends first is the first line.
 use Rattle.std.proofs.Common.{sym, ◌∙◌}
 use Rattle.postcard_value_json_read.proofs.LineLemmas.{line_ends, line_goes_on}
 use Rattle.postcard_value_json_read.proofs.place.after_line.Goals as goal

@@ -1,3 +1,4 @@
+-- If the text is a line and more text, what is left is the end of that line and the same text. Each turn drops a byte.
 use Rattle.std.proofs.Common.{◌≡◌, ℕ, List, ◌∷◌, ◌++◌, length}
 use Rattle.postcard_value_json_read.specs.Lines.{IsLine}
 use Rattle.postcard_value_json_read.proofs.place.after_line.Given as goal

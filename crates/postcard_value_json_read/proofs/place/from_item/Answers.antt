@@ -1,3 +1,4 @@
+-- Each turn skips one value and the `,` after it, so the wanted item is one value nearer.
 use Rattle.std.proofs.Common.{◌≡◌, ℕ, suc, ◌+◌, ◌-◌, List, ◌++◌, refl, sym, ap, ◌∙◌, subst, arith}
 use Rattle.postcard_schema_text.specs.Text.{TakesPhrase, IsSign, unblank}
 use Rattle.postcard_schema_text.specs.FrontLemmas.{takes_split, trim_is}

@@ -1,4 +1,4 @@
--- As many values are before the item as turns are left.
+-- The number of values before the item is the number of turns that are left.
 use Rattle.std.proofs.Common.{◌≡◌, ◌-◌, List, ℕ}
 use Rattle.postcard_schema_text.specs.Text.{Then, TakesPhrase, IsSign, unblank}
 use Rattle.postcard_value_json_read.specs.Parts.{AreValues}

@@ -1,3 +1,4 @@
+-- Each turn drops one line, and at the end the bytes up to the column are dropped.
 use Rattle.std.proofs.Common.{◌≡◌, ◌-◌, ◌++◌, sym, ap, ◌∙◌, subst, arith}
 use Rattle.postcard_value_json_read.specs.Lines.{AreLines}
 use Rattle.postcard_value_json_read.proofs.LineLemmas.{line_less}

@@ -1,3 +1,4 @@
+-- If the text is lines and more text, what is left is the lines not dropped yet and the same text.
 use Rattle.std.proofs.Common.{◌≡◌, ℕ, List, ◌++◌, ◌-◌}
 use Rattle.postcard_value_json_read.specs.Lines.{AreLines}
 use Rattle.postcard_value_json_read.proofs.place.from_line.Given as goal

@@ -1,3 +1,4 @@
+-- Each turn reads one key and skips its value (`MemberLemmas`). The last value with the name is kept.
 use Rattle.std.proofs.Common.{◌++◌, [], refl, sym, ap, ◌∙◌, true≢false, inl}
 use Rattle.postcard_value_json_read.proofs.Ends.{blanks_off, end_of_end, none_left, sign_off}
 use Rattle.postcard_value_json_read.proofs.MemberLemmas.{Finds, Held, Key, colon_ahead, ended, finds_here, finds_kept, members_of, turn}

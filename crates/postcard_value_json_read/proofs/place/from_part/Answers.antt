@@ -1,3 +1,4 @@
+-- Each step of the path leads from a part's text to the text of a part of it, which ends where the whole text ends.
 use Rattle.std.proofs.Common.{◌<◌, length, map, sym, subst, arith}
 use native.Mathlib.Numerals.{add-one}
 use Rattle.postcard_schema.specs.Paths.{plain_step}

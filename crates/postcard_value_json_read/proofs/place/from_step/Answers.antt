@@ -1,3 +1,4 @@
+-- The clauses are those of `from_member` for a name, and of `from_item` for a number.
 use Rattle.postcard_value_json_read.proofs.place.from_step.Goals as goal
 
 pub returns-in-Name-clause-part : goal.returns-in-Name-clause-part

@@ -1,3 +1,4 @@
+-- The string is what `after_string` skips, so it is cut off just before the text after it.
 use Rattle.std.proofs.Common.{◌≡◌, ℕ, List, [], ◌∷◌, ◌++◌, length, take, length-append, refl, ap, ◌∙◌, arith}
 use Rattle.std.proofs.lemmas.List.{append_assoc}
 use Rattle.postcard_schema_text.specs.FrontLemmas.{trim_is}

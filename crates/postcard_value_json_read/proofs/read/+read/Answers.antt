@@ -1,3 +1,5 @@
+-- The mutually recursive readers of values from JSON, by the kind of the schema. A value that is read is the only one that the JSON
+-- denotes, and JSON that is refused denotes none (`Answered`). The answer of a whole is that of its parts in order.
 use Rattle.std.proofs.Common.{◌≡◌, None, Some, ◌+◌, ◌<◌, ◌^◌, ◌++◌, true, false, [], ◌∷◌, map, take, length, vec_len, get_or, codes, Vec, Global, sym, ap, subst, ◌∙◌, true≢false, take_all, arith, rules}
 use Rattle.std.specs.Prelude.{is_some}
 use Rattle.std.specs.Bool.{◌==◌}

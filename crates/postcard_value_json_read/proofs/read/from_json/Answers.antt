@@ -1,3 +1,4 @@
+-- What `to_json` wrote is read back: its JSON denotes the value (`Back`), and `read` accepts what the JSON denotes.
 use Rattle.postcard_schema.specs.Meaning.{type_of}
 use Rattle.postcard_value_text.specs.Accepted.{HasDistinctNames}
 use Rattle.postcard_value_text.specs.Layout.{layout_of}

@@ -1,3 +1,4 @@
+-- Each turn skips one piece of the text: a string, a bracket or another byte. The bracket that closes the first one ends the loop.
 use Rattle.std.proofs.Common.{◌≡◌, ℕ, List, [], ◌∷◌, length, sym, ap, ◌∙◌, subst, arith}
 use Rattle.postcard_value_json_read.specs.Values.{IsEndOf}
 use Rattle.postcard_value_json_read.proofs.Ends.{end_of_end}

@@ -1,3 +1,4 @@
+-- The bytes before the loop's place are those of the scalar, which ends at the first byte that may not be part of one.
 use Rattle.std.proofs.Common.{sym, ◌∙◌}
 use Rattle.postcard_value_json_read.proofs.Ends.{byte_off}
 use Rattle.postcard_value_json_read.proofs.ValueLemmas.{scalar_here, scalar_on}

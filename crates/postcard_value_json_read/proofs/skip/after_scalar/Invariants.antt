@@ -1,3 +1,4 @@
+-- If the text is a scalar and more text, what is left is the end of the scalar and the same text. Each turn drops a byte.
 use Rattle.std.proofs.Common.{◌≡◌, ℕ, List, ◌++◌, length}
 use Rattle.postcard_value_json_read.specs.Values.{EndsScalar, IsEndOf, IsScalar}
 use Rattle.postcard_value_json_read.proofs.skip.after_scalar.Given as goal

@@ -1,3 +1,4 @@
+-- The first quote that isn't escaped ends the string.
 use Rattle.std.proofs.Common.{[], ◌∷◌, sym, ◌∙◌, subst, arith}
 use Rattle.postcard_value_json_read.specs.Values.{AreQuoted}
 use Rattle.postcard_value_json_read.proofs.Ends.{byte_off}

@@ -1,3 +1,5 @@
+-- If the text is a string and more text, what is left is the end of the string and the same text. `escaped` says whether the last byte was
+-- a `\` that escapes the next.
 use Rattle.std.proofs.Common.{◌≡◌, ℕ, List, ◌∷◌, ◌++◌, length, ◌<◌, false}
 use Rattle.postcard_value_json_read.specs.Values.{AreQuoted, IsEndOf}
 use Rattle.postcard_value_json_read.proofs.skip.after_string.Given as goal

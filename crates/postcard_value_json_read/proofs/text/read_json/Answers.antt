@@ -1,3 +1,4 @@
+-- The error for a text that isn't JSON has no path. Any other error is that of `from_json`.
 use Rattle.std.proofs.Common.{List, [], ℕ, inl}
 use Rattle.postcard_value_json_read.specs.Places.{HasPath, IsTextError}
 use Rattle.postcard_value_json_read.specs.declared.error.Expected.TheVariants.{Json}

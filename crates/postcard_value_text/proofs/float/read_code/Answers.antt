@@ -1,3 +1,4 @@
+-- `read_code` takes one word, the bits, and `)`. If one of these is missing, no bits in parentheses begin the text.
 use Rattle.std.proofs.Common.{◌≡◌, [], ◌∷◌, refl, sym, ap, ◌∙◌}
 use Rattle.std.specs.Prelude.{Some, None}
 use Rattle.std.proofs.lemmas.Bool.Decides.{Decides-eqb}

@@ -1,3 +1,4 @@
+-- The bits that are read are those that the text denotes. A float that `show_float` wrote is read back as the same bits.
 use Rattle.std.proofs.Common.{◌≡◌, ℕ, List, codes, sym, ap, refl, subst, ◌∙◌, true≢false}
 use Rattle.std.proofs.lemmas.Bool.Decides.{Decides-eqb}
 use Rattle.std.proofs.lemmas.Slice.Eq.{slice_eq-Decides}

@@ -1,3 +1,4 @@
+-- Three cases: a number or an infinity, the usual NaN, and a NaN with other bits. The text of each denotes the bits.
 use Rattle.std.proofs.Common.{◌≡◌, ◌++◌, ◌∷◌, [], false, Some, codes, ap, ◌∙◌, arith}
 use Rattle.std.proofs.lemmas.Grind.{common_steps}
 use Rattle.std.specs.Fmt.{digits}

@@ -1,3 +1,4 @@
+-- `take_number` takes blanks and all bytes that a number may have, and stops at the first other byte.
 use Rattle.std.proofs.Common.{◌≡◌, ◌<◌, false, length, get_or, refl, arith}
 use Rattle.std.proofs.lemmas.Grind.{common_steps}
 use Rattle.postcard_schema_text.specs.Phrases.{all_take, trim_takes, led}

@@ -1,3 +1,4 @@
+-- The next word is `true` or `false` if and only if the text begins with a `bool`.
 use Rattle.postcard_value_text.specs.Spelled.{IsTruth}
 use Rattle.postcard_value_text.proofs.Fronts.{scalar_led, scalar_taken, truth_scalars}
 use Rattle.postcard_value_text.proofs.LeafFronts.{one_truth}

@@ -1,3 +1,4 @@
+-- The next word is `0x` and pairs of digits if and only if the text begins with a byte string.
 use Rattle.std.proofs.Common.{◌≡◌, [], ◌∷◌, false, take, eqb, sym, subst, ◌∙◌, true≢false, inl, inr}
 use lib.Pointwise.{pointwise}
 use Rattle.std.specs.Prelude.{Some}

@@ -1,3 +1,4 @@
+-- A quoted text of one character is that character. Otherwise no character begins the text.
 use Rattle.std.proofs.Common.{refl, sym, subst, ◌∙◌, arith}
 use Rattle.std.specs.Char.{encode_utf8}
 use Rattle.std.proofs.lemmas.Str.{IsUtf8-encode}

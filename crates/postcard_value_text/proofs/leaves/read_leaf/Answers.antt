@@ -1,3 +1,4 @@
+-- Each type without parts, in three steps: the tree of the value, that the text denotes it, and that each text of a value is read.
 use Rattle.std.proofs.Common.{◌≡◌, ◌<◌, ◌^◌, ◌∙◌, map, length, refl, sym, ap, arith, rules}
 use Rattle.std.specs.Prelude.{string_bytes}
 use Rattle.std.specs.Char.{encode_utf8}
@@ -58,7 +59,7 @@ returns-in_ok-read_bits-in-Fixed-clause-value c =
     let seen : tree (values.Fixed o i n) ≡ fixed_tree o (size_of i) n = search (rules, the_lemmas) in
     rw (c.in-Fixed.is, seen) (is_fixed o (size_of i) n)
 
--- ---- the text spells it
+-- ---- the text denotes it
 
 pub returns-in_ok-read_bool-in-Bool-clause-spelled : goal.returns-in_ok-read_bool-in-Bool-clause-spelled
 returns-in_ok-read_bool-in-Bool-clause-spelled c =
@@ -110,7 +111,7 @@ returns-in_ok-read_bits-in-Fixed-clause-spelled c =
     let taken = led_again (HasBits (is_signed i) i n) c.args.rest.now.now c.skip_blanks.new.rest.now c.read_bits-in-Fixed.new.rest.now c.skip_blanks.ensures c.in_ok-read_bits-in-Fixed.ensures.spelled in
     rw (c.in-Fixed.is, seen) (taken.0, (n, refl, taken.1), taken.2)
 
--- ---- each text that spells one is read
+-- ---- each text that denotes one is read
 
 pub returns-in_ok-read_bool-in-Bool-clause-accepted : goal.returns-in_ok-read_bool-in-Bool-clause-accepted
 returns-in_ok-read_bool-in-Bool-clause-accepted c =

@@ -1,3 +1,4 @@
+-- Byte after byte: one more byte appends its two digits.
 use Rattle.std.proofs.Common.{◌<◌, length, refl, sym, arith}
 use Rattle.std.proofs.Output.{has_written_append, has_written_of_eq}
 use Rattle.postcard_value_text.proofs.Joined.{hexadecimal_more}

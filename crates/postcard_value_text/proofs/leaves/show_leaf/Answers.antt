@@ -1,3 +1,4 @@
+-- A number at its full width is shown by the bits that its bytes have.
 use Rattle.std.proofs.Common.{◌≡◌, sym, rules}
 use Rattle.std.proofs.Output.{displays_on_ok_of_eq}
 use denote.Enum.Bare.{differs_false}

@@ -1,3 +1,4 @@
+-- A string that needs no escapes has the same text as its escaped form, so it may be printed in one piece.
 use Rattle.std.proofs.Common.{◌≡◌, true, Some, [], ◌∷◌, sym, ◌∙◌}
 use Rattle.std.specs.List.{list_all}
 use Rattle.std.proofs.Output.{displays_on_ok_of_eq}

@@ -1,3 +1,4 @@
+-- A word without bits of the type denotes no number of the type, for both kinds of types.
 use Rattle.std.proofs.Common.{◌≡◌, ◌∙◌, true, false, sym}
 use Rattle.postcard_schema.specs.Leaves.{is_signed}
 use Rattle.postcard_value_text.proofs.number.bits_in.Goals as goal

@@ -1,3 +1,4 @@
+-- A word that is refused denotes no number below 2^128.
 use Rattle.postcard_value_text.proofs.Numbers.{no_literal}
 use Rattle.postcard_value_text.proofs.number.magnitude.Goals as goal
 

@@ -1,3 +1,4 @@
+-- By cases of the sign. The magnitude after it denotes the number, and must fit `i128`.
 use Rattle.std.proofs.Common.{[], ◌∷◌, arith}
 use Rattle.std.specs.Prelude.{Some, None}
 use Rattle.std.proofs.lemmas.Bool.Decides.{Decides-eqb}

@@ -1,3 +1,4 @@
+-- A signed number in the type's range has one pattern of bits. Any other has none.
 use Rattle.std.proofs.Common.{subst, sym, rules}
 use Rattle.std.specs.Int.{w128}
 use Rattle.std.specs.Prelude.{FitsSigned}

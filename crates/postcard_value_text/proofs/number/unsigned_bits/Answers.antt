@@ -1,3 +1,4 @@
+-- A number has bits of the type if and only if it is below the power of 2 of the width.
 use Rattle.std.proofs.Common.{◌<◌, ◌^◌, subst, sym, arith}
 use Rattle.postcard_schema.specs.Leaves.{size_of}
 use Rattle.postcard_value.specs.NumberLemmas.{at_most_128}

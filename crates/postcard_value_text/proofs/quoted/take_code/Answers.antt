@@ -1,3 +1,4 @@
+-- The code so far is that of the digits before the loop's place. Where a digit or a brace is missing, no code begins the text.
 use Rattle.std.proofs.Common.{◌∷◌, ◌≤◌, [], refl, sym, ap, subst, ◌∙◌, arith, inl}
 use Rattle.std.specs.Char.{IsScalar}
 use Rattle.std.proofs.lemmas.Result.{IfOk-weaker, IfErr-weaker, MatchResult-from_both, err_from_is_err_and}

@@ -1,3 +1,4 @@
+-- A letter is a short escape, or `u` and a code. Where the call stops, no escape begins the text.
 use Rattle.std.proofs.Common.{◌∷◌, [], ◌++◌, sym, ap, subst, ◌∙◌}
 use Rattle.std.specs.Char.{encode_utf8}
 use Rattle.postcard_schema_text.specs.Text.{TakesPhrase}

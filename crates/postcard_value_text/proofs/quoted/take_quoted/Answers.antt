@@ -1,3 +1,4 @@
+-- Each turn takes one piece of the quoted text, a byte or an escape. Where the call stops, no quoted text begins the text.
 use Rattle.std.proofs.Common.{◌≡◌, ◌+◌, [], ◌∷◌, length, sym, ap, subst, ◌∙◌, true≢false, arith}
 use Rattle.std.specs.Prelude.{IsUtf8}
 use Rattle.std.proofs.lemmas.Grind.{common_steps}

@@ -1,3 +1,5 @@
+-- The mutually recursive readers of values, by the kind of the schema. Each goal shows that the text read denotes the value (`spelled`),
+-- and that each text of a value is read (`accepted`). The result of a whole comes from those of its parts, read in order (`Readers`).
 use Rattle.std.proofs.Common.{◌≡◌, ◌+◌, ◌<◌, ◌^◌, [], drop, length, string_bytes, vec_len, get_or, Ok, Err, refl, sym, ap, ◌∙◌, true≢false, arith, rules, inl, inr}
 use Rattle.std.proofs.lemmas.Bool.Decides.{Decides-ltb}
 use Rattle.std.proofs.lemmas.Grind.{common_steps}

@@ -1,4 +1,4 @@
--- However reading what is left ends, reading the whole ends likewise, with the values read so far in front.
+-- Reading the whole ends as reading the remaining text does. If that succeeds, the values read so far come first.
 use Rattle.std.proofs.Common.{◌+◌, ◌≤◌, true, drop, length}
 use Rattle.std.specs.Bool.{◌==◌}
 use Rattle.postcard_schema.specs.Meaning.{reads, type_of}

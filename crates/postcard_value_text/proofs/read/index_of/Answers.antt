@@ -1,3 +1,4 @@
+-- No variant before the loop's place has the name.
 use Rattle.std.proofs.Common.{◌≡◌, get_or, sym, ◌∙◌, true≢false}
 use Rattle.std.proofs.lemmas.Bool.Decides.{Decides-eqb}
 use Rattle.std.proofs.lemmas.Slice.Eq.{slice_eq-Decides}

@@ -1,3 +1,4 @@
+-- The clauses of `read_text` are those of `read_whole`.
 use Rattle.postcard_value_text.proofs.read.read_text.Goals as goal
 
 pub returns-in-Ok-clause-spelled : goal.returns-in-Ok-clause-spelled

@@ -1,3 +1,4 @@
+-- A text of a value is the value and then blanks, so what follows the value must be blanks.
 use Rattle.std.proofs.Common.{◌≡◌, [], ◌++◌, length, sym, ap, ◌∙◌, arith, inl}
 use Rattle.std.proofs.lemmas.Grind.{common_steps}
 use Rattle.std.proofs.lemmas.List.{append-nil}

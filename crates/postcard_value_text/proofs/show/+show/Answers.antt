@@ -1,3 +1,5 @@
+-- The mutually recursive printers of values, by the kind of the schema. The text of a whole is that of its parts in order, with the signs
+-- between them.
 use Rattle.std.proofs.Common.{◌≡◌, ◌+◌, ◌<◌, ◌++◌, false, true, [], ◌∷◌, map, take, length, get_or, string_bytes, refl, sym, ap, ◌∙◌, arith, rules, Some, Err}
 use Rattle.std.proofs.lemmas.Grind.{common_steps}
 use Rattle.std.proofs.Output.{displays_on_ok_of_eq}

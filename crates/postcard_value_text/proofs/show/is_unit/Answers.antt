@@ -1,3 +1,4 @@
+-- A type is the unit if it is a tuple or a struct without parts.
 use Rattle.std.proofs.Common.{◌≡◌, length, vec_len, sym, ap, ◌∙◌, arith}
 use Rattle.std.specs.Bool.{◌==◌}
 use Rattle.std.proofs.lemmas.Grind.{common_steps}

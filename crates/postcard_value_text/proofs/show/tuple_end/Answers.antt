@@ -1,3 +1,4 @@
+-- A tuple of one part ends with `,)`, and any other with `)`.
 use Rattle.std.proofs.Common.{◌≡◌, length, refl, ◌∙◌, arith}
 use Rattle.std.proofs.lemmas.Grind.{common_steps}
 use Rattle.postcard_value_text.proofs.Layouts.{ends_one, ends_other}

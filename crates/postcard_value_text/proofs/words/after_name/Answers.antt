@@ -1,3 +1,4 @@
+-- The text begins with the name and a quote if and only if both prefixes can be stripped.
 use Rattle.std.proofs.Common.{[], ◌∷◌}
 use Rattle.std.specs.Prelude.{Some, None}
 use Rattle.std.proofs.lemmas.Bool.Decides.{Decides-eqb}

@@ -1,3 +1,4 @@
+-- A `,` is taken only after a part. Then the bracket must be next.
 use Rattle.std.proofs.Common.{◌≡◌, refl, sym, subst}
 use Rattle.postcard_schema_text.specs.Text.{TakesPhrase, IsSign, IsMaybe}
 use Rattle.postcard_schema_text.specs.FrontLemmas.{takes_split}

@@ -1,3 +1,4 @@
+-- The clauses of `expect` are those of `take`.
 use Rattle.postcard_value_text.proofs.Fronts.{one_rest}
 use Rattle.postcard_value_text.proofs.words.expect.Goals as goal
 

@@ -1,3 +1,4 @@
+-- No sign stands before the first part, and `,` before each other one.
 use Rattle.std.proofs.Common.{refl}
 use Rattle.postcard_value_text.proofs.Signs.{none_taken}
 use Rattle.postcard_value_text.proofs.words.separate.Goals as goal

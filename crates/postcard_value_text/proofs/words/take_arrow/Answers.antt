@@ -1,3 +1,4 @@
+-- An arrow is `=` and then `>`, each with blanks before it or none. If one of the two is missing, no arrow begins the text.
 use Rattle.std.proofs.Common.{refl, sym, subst}
 use Rattle.postcard_schema_text.specs.Text.{TakesPhrase, IsSign}
 use Rattle.postcard_schema_text.specs.FrontLemmas.{takes_split}

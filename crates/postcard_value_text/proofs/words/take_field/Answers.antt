@@ -1,3 +1,4 @@
+-- A field's name is a word or stands between quotes. It can't be both, so what is taken is the only one there.
 use Rattle.std.proofs.Common.{sym, subst, ◌∙◌, inl, inr}
 use Rattle.postcard_schema_text.specs.Text.{TakesPhrase, IsWord}
 use Rattle.postcard_schema_text.specs.Phrases.{takes_as}

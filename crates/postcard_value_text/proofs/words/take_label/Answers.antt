@@ -1,3 +1,4 @@
+-- A label is a field's name and then `:`.
 use Rattle.std.proofs.Common.{refl, sym, subst}
 use Rattle.postcard_schema_text.specs.Text.{TakesPhrase, IsSign}
 use Rattle.postcard_schema_text.specs.FrontLemmas.{takes_split, sign_ends_word}

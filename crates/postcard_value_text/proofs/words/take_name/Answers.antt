@@ -1,3 +1,4 @@
+-- The whole next word is compared, so a longer word isn't taken for the name.
 use Rattle.std.proofs.Common.{◌≡◌, sym, ◌∙◌, true≢false}
 use Rattle.std.proofs.lemmas.Bool.Decides.{Decides-eqb}
 use Rattle.std.proofs.lemmas.Slice.Eq.{slice_eq-Decides}

@@ -1,3 +1,4 @@
+-- A quote is next, and after it the name and a quote. Otherwise no quoted name begins the text.
 use Rattle.std.proofs.Common.{[], ◌∷◌, ◌++◌, ◌≡◌, refl}
 use Rattle.postcard_schema_text.specs.Text.{IsSign}
 use Rattle.postcard_schema_text.specs.FrontLemmas.{takes_split}

@@ -1,3 +1,4 @@
+-- The byte that is moved leaves the input, and is the first of the buffer.
 use Rattle.std.proofs.Common.{◌≡◌, ℕ, ◌<◌, List, [], ◌∷◌, length, take, slice_set, refl, arith}
 use Rattle.test_layers.proofs.reading_flavors.move_first.Goals as goal
 

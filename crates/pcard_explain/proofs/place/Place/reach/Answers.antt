@@ -1,3 +1,4 @@
+-- Closing the parts that are no longer around, and adding the line's step, gives the path of the line.
 use Rattle.std.proofs.Common.{List, ℕ, ◌++◌, take, sym, ap, ◌∙◌}
 use Rattle.std.specs.Prelude.{map}
 use Rattle.std.proofs.lemmas.List.{take-map}

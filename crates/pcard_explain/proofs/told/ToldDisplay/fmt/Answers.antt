@@ -1,3 +1,4 @@
+-- The text is printed in three pieces: the part's name, a separator and the value.
 use Rattle.postcard_value_text.proofs.Joined.{displays_failed, two_then}
 use Rattle.pcard_explain.specs.Told.{title_text, separator_text, kind_text}
 use Rattle.pcard_explain.proofs.told.ToldDisplay.fmt.Goals as goal

@@ -1,3 +1,4 @@
+-- The line of a skipped frame is printed already. Any other line is printed now.
 use Rattle.std.proofs.Common.{◌∙◌}
 use Rattle.postcard_cobs.specs.Groups.{NoZero}
 use Rattle.pcard_message.proofs.StreamLemmas.{ended, ended_skipped}

@@ -1,3 +1,4 @@
+-- By cases: the frame is being skipped, becomes too long now, or is held with the new bytes.
 use Rattle.std.proofs.Common.{refl, arith}
 use Rattle.std.proofs.lemmas.Result.{on_ok_weaker}
 use Rattle.pcard_message.proofs.StreamLemmas.{skipped, kept, overflowed}

@@ -1,3 +1,4 @@
+-- The held bytes are the frame, so its line is the frame's answer.
 use Rattle.std.proofs.Common.{arith}
 use Rattle.std.proofs.lemmas.Result.{on_ok_weaker}
 use Rattle.pcard_print.specs.Answers.{plain_answer, refused}

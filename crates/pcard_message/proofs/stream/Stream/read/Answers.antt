@@ -1,3 +1,4 @@
+-- The piece that was read takes the state on, or the input is at its end.
 use Rattle.std.proofs.Common.{◌≡◌, arith, take}
 use Rattle.std.proofs.lemmas.Bool.{ltb-true, ltb-false}
 use Rattle.std.proofs.lemmas.List.{length-take-le}

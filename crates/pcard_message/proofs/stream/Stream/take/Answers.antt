@@ -1,3 +1,4 @@
+-- Each turn takes the bytes up to the next zero, and then the zero. At the end bytes without a zero are held.
 use Rattle.std.proofs.Common.{◌<◌, [], length, refl, sym, ◌∙◌, eqb-true, arith}
 use Rattle.pcard_message.proofs.StreamLemmas.{continues_none, continues_all, takes_last, takes_frame}
 use Rattle.pcard_message.proofs.stream.Stream.take.Goals as goal

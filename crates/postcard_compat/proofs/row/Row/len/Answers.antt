@@ -1,4 +1,4 @@
--- There are as many contents as names.
+-- A list of names has one content for each name.
 use Rattle.std.proofs.Common.{length, ap, sym, ◌∙◌}
 use Rattle.postcard_schema.specs.Lemmas.{contents_length}
 use Rattle.postcard_compat.specs.Parts.{parts_of}

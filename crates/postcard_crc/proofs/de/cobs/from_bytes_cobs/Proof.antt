@@ -1,4 +1,4 @@
--- `from_bytes_cobs`: three calls; the rest that the second lends is let go. Assumes `Logic`.
+-- `from_bytes_cobs` makes three calls. The remaining bytes that the second call lends are let go. Assumes `Logic`.
 use Rattle.postcard_memory.proofs.Steps.{ℕ, MutBor, List, [], ◌∷◌, ◌≡◌, ◌∙◌, ap, refl, sym, id⊢, w64, vint, ‵, raw, ◌⊛◌, some, later, await, pick, tables, ftrue, flft, fres, named, Val, ◌$◌, ◌∵◌, !, qed, move, keep, split, drop, join, fsplit, fsplit3, fjoin, fpick, rewrite, done, enter, alloc_all, pass_all, free_all, look_at, look_in_at, get, get_in, sets, fld, hop, from, stop, agg, addr, and_then, no_more, of_opd, returns, sub, whole, plain, yes, no, u8, heard, peeks, shows, use1, use2, Stays, walk_of, stay_dropped, Goes-dropped, Goes-spent_slice, suffices, nothing, MutSlice, slice_val, mut_slice_vals, mut_slice_Tells, fact, owned, uint_Makes, lands_as, only, calls_at, lasts, triple_of, framed}
 use Rattle.std.proofs.Common.{◌<◌, ◌≤◌, ◌^◌, ◌++◌, length, take, drop as drop_list, subst}
 use Rattle.std.proofs.raw_atomic.Walks.{proved_at, leaves}
@@ -125,14 +125,14 @@ walk decodes reads 𝓤 𝓛 𝓜 𝓡 wired T W I LT LW LI copies Gh D Sh Ds Wh
     let long₂ : length p.0.now < 2 ^ 64 = is₁.0.1.0 in let long₃ : length p.1.now < 2 ^ 64 = is₂.0.1.0 in
     lands_as ! (ap only (e ∙ (λ i. vstruct (of_list (is₁.0.0 i ++ (is₂.0.0 i ++ []))) ∷ []))) refl (tt, ((tt, (record { fits = long₂ }, tt)), ((tt, (record { fits = long₃ }, tt)), tt))) $
     sets ! (of_opd ! (get_in ! (fld ! refl (stop !)) (sub ! 0 refl (whole !)))) refl (tt, (tt, (record { fits = long₂ }, tt))) $
-    -- The rest is let go, and so the whole is known.
+    -- The loan of the remaining bytes ends, and so the whole buffer is known.
     fsplit3 ! $ drop ! $ rewrite ! 0 (λ (m : List ℕ). ‵ (fobs p.1.ghost_name ((coded_list u8.coded).code m))) (heres_id u8 p.1.now) refl $
     use1 𝓛 (‵ (fres p.1.ghost_name ((coded_list u8.coded).code p.1.now))) (𝓛.names.obs-res p.1.ghost_name ((coded_list u8.coded).code p.1.now)) $ move ! (1 ∷ []) $ drop ! $ move ! (2 ∷ 0 ∷ []) $
     use2 𝓛 (‵ (fres d.all.ghost_name ((coded_list u8.coded).code (front ++ p.1.now)))) (followed 𝓛 (Array u8 0) (Array u8 0) (λ w. front ++ w) d.all.ghost_name p.1.ghost_name p.1.now) $
     let kept : KeepsFromZero xs (front ++ p.1.now) = subst (λ (m : List ℕ). KeepsFromZero xs (front ++ m)) (sym back_is) (keeps_all xs d made) in
     use1 𝓛 (‵ (follows_so (Array u8 0) (Array u8 0) d.all.ghost_name none (λ _ _. ⊤) (KeepsFromZero xs))) (ends_so 𝓛 (Array u8 0) d.all.ghost_name (front ++ p.1.now) (KeepsFromZero xs) kept) $
     rewrite ! 0 (λ (δ : GName). ‵ (follows_so (Array u8 0) (Array u8 0) δ none (λ _ _. ⊤) (KeepsFromZero xs))) same refl $
-    -- [what the whole ends as; the front; the token; the allocator; the other tokens; the digest]
+    -- [what the whole ends as; the prefix; the token; the allocator; the other tokens; the digest]
     sets ! (of_opd ! (get ! refl)) refl digest_ready.2 $
     -- `read_checked`
     let R = triple_of 𝓛 (r.signature T W I Gh D Sh Ds Wh Dw Ch Dc Ih Di Dt De P) (r.spec T W I Gh D Sh Ds Wh Dw Ch Dc Ih Di Dt De P 𝓛 𝓜.mem 𝓡.returns) in

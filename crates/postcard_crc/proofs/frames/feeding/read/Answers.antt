@@ -1,4 +1,4 @@
--- By what the piece completed.
+-- By cases: the piece completed a frame with a value, a frame without one, or no frame.
 use Rattle.std.proofs.Common.{[]}
 use Rattle.postcard_crc.specs.Own.{IsOwn}
 use Rattle.postcard_accumulator.proofs.Taking.{read_consumed, read_over_full, read_refused, read_err, read_ok}

@@ -1,3 +1,4 @@
+-- The rows that the definition makes of a tuple and a struct have one entry for each part.
 use Rattle.std.proofs.Common.{arith}
 use Rattle.postcard_explain.proofs.PartLemmas.{length_named, length_numbered}
 use Rattle.postcard_explain.proofs.row.Row.len.Goals as goal

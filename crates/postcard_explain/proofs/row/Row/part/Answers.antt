@@ -1,3 +1,4 @@
+-- The part at an index has the label and the type that the definition gives it.
 use Rattle.std.proofs.Common.{◌≡◌, ◌<◌, length, get_or, ap, arith}
 use Rattle.std.proofs.lemmas.Grind.{common_steps}
 use Rattle.postcard_explain.specs.Parts.{at_field}

@@ -1,3 +1,4 @@
+-- `fmt` prints a path step by step: one more step extends what is printed.
 use Rattle.std.proofs.Common.{◌<◌, length, refl, sym, arith}
 use Rattle.std.proofs.Output.{has_written_append, has_written_of_eq}
 use Rattle.postcard_schema.proofs.Steps.{steps_more}

@@ -1,3 +1,4 @@
+-- The schema of a list or an option that `of_type` makes is the one that the grammar names.
 use Rattle.std.proofs.Common.{◌≡◌, true, arith}
 use Rattle.std.proofs.lemmas.Grind.{common_steps}
 use Rattle.postcard_schema.specs.Meaning.{has_bytes, type_of}

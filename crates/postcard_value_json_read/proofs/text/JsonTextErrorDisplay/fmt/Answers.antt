@@ -1,3 +1,4 @@
+-- The message of an error is printed piece by piece.
 use Rattle.std.proofs.Common.{◌≡◌, List, [], ◌∷◌, length, ℕ, string_bytes, refl, ap, ◌∙◌, arith}
 use Rattle.std.specs.String.{string_len}
 use Rattle.std.proofs.lemmas.Grind.{common_steps}

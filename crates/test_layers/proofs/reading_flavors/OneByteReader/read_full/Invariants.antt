@@ -1,3 +1,4 @@
+-- The invariant of the loop that fills a buffer byte by byte.
 use Rattle.std.proofs.Common.{◌≡◌, ◌++◌, take}
 use Rattle.test_layers.proofs.reading_flavors.OneByteReader.read_full.Given as goal
 

@@ -1,3 +1,4 @@
+-- Each turn moves one piece from the bytes left to the buffer, after the pieces before.
 use Rattle.std.proofs.Common.{rules, ◌-◌, ◌++◌, length, take, sym, ap, ◌∙◌, append_assoc}
 use Rattle.test_support.proofs.Filled.{front_filled}
 use Rattle.test_support.proofs.devices.readers.PiecesReader.read_full.Goals as goal

@@ -1,3 +1,4 @@
+-- The invariant of the loop that fills a buffer piece by piece. Each turn fills more of it.
 use Rattle.std.proofs.Common.{◌≡◌, ◌-◌, ◌≤◌, ◌++◌, length, take}
 use Rattle.test_support.proofs.devices.readers.PiecesReader.read_full.Given as goal
 
