@@ -28,9 +28,11 @@ use Rattle.postcard_schema_size.proofs.Sums.{small}
 abbrev Holds : SizeLimit → (Tree → Type 0) → Type 0
 Holds l has = IsLimit l has (λ (v : Unit {0}). never)
 
+-- The same of parts in a row.
 abbrev RowHolds : SizeLimit → (Trees → Type 0) → Type 0
 RowHolds l has = IsRowLimit l has (λ (v : Unit {0}). never)
 
+-- The same of variants, from an index on.
 abbrev CasesHold : (Option ℕ → SizeLimit) → (ℕ → Tree → Type 0) → Option ℕ → Type 0
 CasesHold l has = IsCasesLimit l has (λ (v : Unit {0}). never)
 

@@ -44,6 +44,7 @@ AreReadBack no_types no_layouts = Unit {0}
 AreReadBack (then_type m ms) (then_layout x xs) = IsReadBack m x × AreReadBack ms xs
 AreReadBack ms xs = ⊥
 
+-- The JSON of each field is read back as the value that it was written of.
 abbrev AreFieldsBack : MessageTypes → Fields → Type 0
 AreFieldsBack no_types no_fields = Unit {0}
 AreFieldsBack (then_type m ms) (then_field n x fs) = IsReadBack m x × AreFieldsBack ms fs

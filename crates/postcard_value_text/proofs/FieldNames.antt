@@ -51,6 +51,7 @@ cancel : (p x y : List ℕ) → p ++ x ≡ p ++ y → x ≡ y
 cancel [] x y e = e
 cancel (z ∷ p) x y e = cancel p x y (same_rest e)
 
+-- A text has one remaining text after the name and the quote.
 pub same_left : (name x y m : List ℕ) → m ≡ name ++ 34 ∷ x → m ≡ name ++ 34 ∷ y → x ≡ y
 same_left name x y m e f = same_rest (cancel name (34 ∷ x) (34 ∷ y) (sym e ∙ f))
 
@@ -71,6 +72,7 @@ pub quote_found : (text name x : List ℕ) (r : Option (Bor (List ℕ))) → tex
 quote_found text name x None e m = tt
 quote_found text name x (Some y) e m = e ∙ ap (λ t. name ++ t) m
 
+-- If no quote follows the name, the text doesn't begin with the name and a quote.
 pub quote_none : (text name x : List ℕ) (r : Option (Bor (List ℕ))) → text ≡ name ++ x → MatchOption r ((rest : List ℕ) → x ≢ (34 ∷ []) ++ rest) (λ y. x ≡ (34 ∷ []) ++ y.now)
     → IfNone r ((after : List ℕ) → text ≡ name ++ 34 ∷ after → ⊥)
 quote_none text name x None e m = λ after is. m after (cancel name x (34 ∷ after) (sym e ∙ is))
