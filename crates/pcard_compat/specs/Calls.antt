@@ -40,7 +40,7 @@ abbrev pub EndsCall : Result Outcome PrintError → Option (List ℕ) → Option
 EndsCall (Ok outcome) old new status = PrintsOutcome outcome old new status
 EndsCall (Err error) old new status = AnswersFailure (failure_of_print error) old new status
 
--- The words are no call, and are reported so.
+-- The arguments are invalid, and are reported so.
 pub record IsMisusedCall (words : Words) (old new told now_told : Option (List ℕ)) (status : ℕ) : Type 0 where
   pub misuse : Misuse
   pub is : IsMisuse words misuse

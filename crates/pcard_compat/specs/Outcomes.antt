@@ -28,7 +28,7 @@ is_safe framed Same = true
 is_safe framed Front = framed
 is_safe framed verdict = false
 
--- The reader was compared with the writer, and this is what is said of it.
+-- The reader was compared with the writer, and this is the text of the result.
 pub record IsWay (options : Options) (writer reader : Version) (said : List ℕ) (safe : Bool) : Type 0 where
   pub comparison : Comparison
   pub compared : IsCompared (type_of writer.schema.now) (type_of reader.schema.now) comparison

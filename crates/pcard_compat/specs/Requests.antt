@@ -40,8 +40,8 @@ begins_switch word = starts_with nat_eq word (codes "--")
 abbrev pub IsNewSwitch : Options → List ℕ → Switch → Type 0
 IsNewSwitch given word switch = (word ≡ switch_name switch) × (is_given switch given ≡ false)
 
--- The words are options, each new, and then words of which the first is no option. The first options are those that are given before,
--- the second ones those that are given then.
+-- The arguments are options, each given once, and then arguments whose first is no option. The first options are those that are given
+-- before, the second ones those that are given then.
 pub data SwitchesThen : Options → Words → Options → Words → Type 0 where
   at_end : (given : Options) → SwitchesThen given [] given []
   at_operand : (given : Options) (word : List ℕ) (words : Words) → begins_switch word ≡ false → SwitchesThen given (word ∷ words) given (word ∷ words)
@@ -72,7 +72,7 @@ pub record HasOtherOperands (words : Words) : Type 0 where
   pub read : SwitchesThen no_options words options operands
   pub count : length operands ≢ 2
 
--- The words are no call, for this reason.
+-- The arguments are invalid, for this reason.
 abbrev pub IsMisuse : Words → Misuse → Type 0
 IsMisuse words misuse = IsMisused no_options words misuse ⊎ ((misuse ≡ Operands) × HasOtherOperands words)
 

@@ -75,7 +75,7 @@ AreEach P (x ∷ xs) said = (first : List ℕ) × (rest : List ℕ) × P x first
 abbrev pub IsLine : Difference → List ℕ → Type 0
 IsLine d line = (what : List ℕ) × (line ≡ place_name (string_bytes d.path) ++ (codes ": " ++ (what ++ 10 ∷ [])))
 
--- The text is the one that is known of a value. Nothing is said of some values with floats.
+-- The text is the one that is known of a value. The text of some values with floats is not specified.
 abbrev pub Shows : Option (List ℕ) → List ℕ → Type 0
 Shows known shown = IfSome known (λ it. shown ≡ it)
 

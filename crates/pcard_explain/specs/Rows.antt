@@ -25,7 +25,7 @@ PrintsLineIn Text layout at path line old new =
     IfSome (told_text line) (λ text. PrintsRow layout at line.depth line.bytes.now text old new)
 PrintsLineIn Json layout at path line old new = PrintsObject at path line old new
 
--- The row of a line at this offset, whose path has this text, is printed: as text, if something is said of the line's text.
+-- The row of a line at this offset is printed, with this text as its path. As text it is specified if the line's text is.
 abbrev pub PrintsLine : Layout → ℕ → List ℕ → Line → Option (List ℕ) → Option (List ℕ) → Type 0
 PrintsLine layout = PrintsLineIn layout.notation layout
 

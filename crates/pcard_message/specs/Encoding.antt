@@ -64,7 +64,7 @@ pub record IsPacked (format : Format) (v : Value) (out : List ℕ) : Type 0 wher
   pub is_body : IsBody format.checksum (canonical (tree v)) body
   pub wrapped : IsWrapped format.framed body out
 
--- The bytes as they are printed: as they are, or in hexadecimal on a line.
+-- The bytes as they are printed: raw, or in hexadecimal on a line.
 abbrev pub written : Bool → List ℕ → List ℕ
 written true bytes = bytes
 written false bytes = encode_lower bytes ++ 10 ∷ []

@@ -43,8 +43,8 @@ PrintsLinesOf format before (a ∷ more) old new =
     (mid : Option (List ℕ)) × PrintsLine format (offset before) a.answer old mid
     × PrintsLinesOf format (before + length a.frame + 1) more mid new
 
--- The line of bytes after the last zero, before which there are `before` bytes, is printed: one line if they are too long already, and else
--- none.
+-- The bytes after the last zero, which come after `before` bytes, have their line printed. It is one line if they are too long already, and
+-- else none.
 pub record PrintsRest (format : Format) (longest before : ℕ) (rest : List ℕ) (old new : Option (List ℕ)) : Type 0 where
   pub over : longest < length rest → PrintsLine format (offset before) (refused overfull) old new
   pub fits : length rest ≤ longest → Appends old new []

@@ -84,7 +84,7 @@ Means old new ds example verdicts.Refuses = NeverMisreads new old × MatchOption
 Means old new ds example verdicts.Misread = MatchOption example ⊥ (IsMisread old new ds)
 Means old new ds example verdicts.Differs = Unit {0}
 
--- What a comparison says of the two types.
+-- What a comparison claims of the two types.
 pub record IsCompared (old new : MessageType) (c : Comparison) : Type 0 where
   -- The new type reads each message of the old one as the same.
   pub same : c.verdict ≡ verdicts.Same → Serves new old

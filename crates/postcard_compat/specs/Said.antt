@@ -12,9 +12,9 @@ use Rattle.postcard_schema.specs.Leaves.{float_size, is_signed, size_of}
 use Rattle.postcard_schema.specs.Meaning.{MessageType, MessageTypes, leaf, option, seq, array, group, choice, no_types, then_type}
 use Rattle.postcard_value.specs.Numbers.{bytes_of, order_of, signed_of}
 
--- One thing that is said: a value without parts, without its width, the number of a list's elements, or the index of a variant. An option
--- is said as an enum, with no value at index 0 and a value at index 1. What is said of an element of a list or of a variant's content ends
--- with `End`.
+-- One thing that a message says: a value without parts and without its width, the number of a list's elements, or the index of a variant.
+-- An option is said as an enum, with no value at index 0 and a value at index 1. What is said of an element of a list or of a variant's
+-- content ends with `End`.
 pub data Word : Type 0 where
   Truth : Bool → Word
   Number : ℤ → Word

@@ -1,4 +1,4 @@
--- What a schema says of a type: the type of its messages, and how its trees and those that are read are tied.
+-- A type and its schema: the type of the schema's messages, and the relation between the trees of both.
 use Rattle.std.specs.Prelude.{ℕ, zero, suc, ⊤, List, [], ◌∷◌, ◌++◌}
 use Rattle.postcard_wire.specs.Tree.{Tree, Trees}
 use Rattle.postcard_wire.specs.Reading.{IsOption, IsSeq, IsArray, IsThen, IsGroup, IsVariant, IsEnd}

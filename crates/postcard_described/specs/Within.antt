@@ -1,4 +1,4 @@
--- Two sets of trees that have the same encodings, or of which one has those of the other.
+-- When one set of trees has the encodings of another, and when two sets have the same encodings.
 use Rattle.std.specs.Prelude.{⊤}
 use Rattle.postcard_wire.specs.Tree.{Tree, Trees}
 use Rattle.postcard_described.specs.SameBytes.{SameBytes, SameRow, same_tree, same_row}

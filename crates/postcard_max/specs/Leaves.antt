@@ -20,7 +20,7 @@ use Rattle.postcard_max.specs.Counts.{longer_counts, count_len, one_count}
 use Rattle.postcard_shape.specs.Shape.{never}
 use Rattle.postcard_max.specs.Willing.{never_any}
 
--- The limit `exactly n` holds of a node that takes at most n bytes, takes n bytes in some encoding, and whose values never refuse to be
+-- When the limit `exactly n` holds of a node: it takes at most n bytes, some encoding takes n bytes, and its values never refuse to be
 -- written.
 leaf_lawful : {V : Type 0} {n : ℕ} {reads : Tree → Type 0} → AreBounded (Some n) reads → IsReached (Some n) reads → IsLimit (exactly n) reads (λ (v : V). never)
 leaf_lawful h k = record { bounded = h; is_reached = λ _. k; never_refuses = λ _. never_any }

@@ -200,7 +200,7 @@ options_end s t k a r h none = by h.more h.is h.signs
 pub options_full : (s : Schema) (t : MessageType) (k : ℕ) (a b r : List ℕ) → OptionsLeft s t k a r → 4 ≤ k → GoesOnBy follows_type r → TakesPhrase (IsSign 63) a b → ⊥
 options_full s t k a b r h full goes sign = let more = options_step s t k a b r h goes sign in omega (arith, full, more.few)
 
--- What is left after the type t' of which the text's first type is one.
+-- What is left once a type was taken of which the text's first type is one.
 pub options_of : (s x : Schema) (t : MessageType) (k : ℕ) (a b r : List ℕ) → t ≡ type_of x → a ≡ b → OptionsLeft s t k a r → OptionsLeft s (type_of x) k b r
 options_of s x t k a b r same e h = record { more = h.more; few = h.few; is = h.is ∙ ap (in_options h.more) same; signs = subst (λ z. Signs 63 h.more z r) e h.signs }
 

@@ -85,7 +85,7 @@ pub plain_refused : {T : Type 0} (text : List ℕ) (r : Result T LiteralError)
     → IfErr r (λ e. IsNoNumber (λ n. AreDigits 10 n text) e) → IfErr r (λ e. IsNoNumber (λ n. IsLiteral n text) e)
 plain_refused text r none first h = refused_as _ _ (λ n d. inl (first, d)) (λ n l. (plain_is n text none l).1) r h
 
--- What a count says of the word that is next.
+-- The next word, if a count is next.
 pub record CountOf (n : ℕ) (word after rest : List ℕ) : Type 0 where
   pub says : IsLiteral n word
   pub low : n < 2 ^ 64

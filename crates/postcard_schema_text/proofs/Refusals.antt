@@ -17,7 +17,7 @@ pub refusal : {p : Problem} {A B : Type 0} → (B → A) → IsRefusal p A → I
 refusal f (inl memory) = inl memory
 refusal f (inr none) = inr (λ b. none (f b))
 
--- A refusal remains one with another problem, if this says that memory is lacking where the first one did.
+-- A refusal remains one with another problem, if that is `OutOfMemory` where the first one was.
 pub refusal_as : {p q : Problem} {A : Type 0} → (p ≡ OutOfMemory → q ≡ OutOfMemory) → IsRefusal p A → IsRefusal q A
 refusal_as f (inl memory) = inl (f memory)
 refusal_as f (inr none) = inr none

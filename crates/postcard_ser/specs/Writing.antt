@@ -9,8 +9,8 @@ use Rattle.postcard_wire.specs.Spelling.{canonical, canonical_all}
 use Rattle.postcard_wire.specs.declared.error.Error.{Error}
 use Rattle.postcard_wire.specs.declared.error.Error.TheVariants.{SerializeBufferFull, CollectStrError}
 
--- The error of a call whose flavor refused a piece. If `text` holds, it may also be the error of a printed text: a piece of it was refused,
--- or printing failed (behaviour of postcard 1.1.3).
+-- The error of a call whose flavor refused a piece. If `text` holds, it may also be that of a printed text: a piece was refused, or
+-- printing failed (behaviour of postcard 1.1.3).
 abbrev pub IsWriteError : Type 0 → Error → Type 0
 IsWriteError text e = (e ≡ SerializeBufferFull) ⊎ (text × (e ≡ CollectStrError))
 
@@ -33,9 +33,8 @@ pub record Wrote {S O : Type 0} (F : Ghosts S O) (s : S) (xs : List ℕ) (refusa
 abbrev pub encoding : {V : Type 0} → Shape V → V → List ℕ
 encoding s v = canonical (s.tree v)
 
--- A call that encodes the value v returned r, of which `says` holds after a success. It succeeds if and only if
--- `room` holds, unless the value refuses itself; with room an error is one by which it does. After a success the
--- value fits.
+-- A call that encodes the value v returned r, of which `says` holds after a success. If the value doesn't refuse itself, it succeeds if and
+-- only if `room` holds. With room an error is one by which the value refuses itself. After a success the value fits.
 pub record Encodes {V R : Type 0} (s : Shape V) (v : V) (says : R → Type 0) (room : Type 0) (r : Result R Error) : Type 0 where
   pub gives : IfOk r says
   pub fits_iff : IsWilling s v → (IsOk r ↔ room)

@@ -113,7 +113,7 @@ value_ends (boolean b ∷ ts) = (refl, refl)
 value_ends (null ∷ ts) = (refl, refl)
 value_ends (bad ∷ ts) = (refl, refl)
 
--- The text is lexed as it is with escapes.
+-- The text has the same tokens as with escapes.
 abbrev Same : List ℕ → Type 0
 Same bs = lex between (bytes_of bs) ≡ lex between bs
 

@@ -1,4 +1,4 @@
--- Escapes in place of control characters leave the tokens of a text of JSON as they are.
+-- Escapes in place of control characters don't change the tokens of a JSON text.
 use Rattle.std.proofs.Common.{◌≡◌, ◌≢◌, ℕ, ◌+◌, ◌*◌, ◌/◌, ◌%◌, ◌<◌, ◌≤◌, Bool, true, false, cond, ◌==◌, ◌&&◌, nat_lt, nat_le, not, List, [], ◌∷◌, ◌++◌, flat_map, Option, Some, None, IsUtf8, inl, inr, ◌⊎◌, refl, sym, ap, ap₂, ◌∙◌, subst, arith, append_assoc}
 use Rattle.std.proofs.lemmas.Bool.{cases_eq, cases_lt, ne_eqb, le-ltb, lt-leb, lt-ltb, le-leb, and_parts, eqb-true, ltb-true, cases_Bool, cond-true, cond-false, and_from, and_left, and_right, agree_below_at, not-true, eqb-false}
 use Rattle.std.proofs.lemmas.Str.{chars-encodes, encode_ascii}

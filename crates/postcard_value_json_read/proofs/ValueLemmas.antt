@@ -1,4 +1,5 @@
--- Lemmas for skipping a value of a JSON text: what is left of a string, an array, an object or a scalar after its first byte or piece.
+-- Lemmas for skipping a value of a JSON text. They say what is left of a string, an array, an object or a scalar after its first byte or
+-- piece.
 use Rattle.std.proofs.Common.{◌≡◌, ℕ, zero, suc, ◌+◌, ◌-◌, true, false, ◌==◌, List, [], ◌∷◌, ◌++◌, inl, inr, ◌⊎◌, refl, sym, ap, ◌∙◌, subst, append_assoc, arith}
 use Rattle.std.proofs.lemmas.Bool.{eqb-true, or_cases}
 use Rattle.postcard_value_json_read.specs.Values.{AreQuoted, Closes, EndsScalar, IsNested, IsScalar, Piece, bracket, bytes, ends_scalar, is_closing, is_opening, other, quoted}

@@ -34,7 +34,7 @@ IsReading m x = IsBoth (reads m) (IsJsonOf x)
 abbrev pub IsEntryReading : (key : MessageType) → Layout → (value : MessageType) → Layout → Reading
 IsEntryReading k x v y = IsBoth (reads (entry_of k v)) (IsEntryJson (IsJsonOf x) (IsJsonOf y))
 
--- The JSON is an array of two items, of which the one at this index is read as the tree.
+-- The JSON is an array of two items. The one at this index is read as the tree.
 abbrev pub IsHalfReading : ℕ → MessageType → Layout → Reading
 IsHalfReading half m x t d = (ds : Items) × (d ≡ values.array ds) × (items_len ds ≡ 2) × (e : Data) × (get_item half ds ≡ Some e) × IsReading m x t e
 

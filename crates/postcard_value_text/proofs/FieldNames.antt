@@ -1,5 +1,5 @@
--- The name of a field in a text: it stands as a word, `label`, or between double quotes, `"label"`. The lemmas say that both forms may have
--- blanks before them, and that only one of them can stand at one place, with one remaining text after it.
+-- The name of a field in a text: it stands as a word, `label`, or between double quotes, `"label"`. Both forms may have blanks before them.
+-- Only one of them can stand at one place, and one text remains after it.
 use Rattle.std.proofs.Common.{◌≡◌, ◌≢◌, ℕ, ◌<◌, Bor, List, [], ◌∷◌, ◌++◌, length, refl, sym, ap, ◌∙◌, true≢false, arith, ◌⊎◌, inl, inr}
 use Rattle.std.specs.Prelude.{Option, Some, None, IfSome, IfNone, MatchOption}
 use Rattle.std.proofs.lemmas.List.{append_assoc}

@@ -18,7 +18,7 @@ pub memory_passed : {V : Type 0} (P : V → Type 0) (r : Result V Stop) (e : Sto
 memory_passed P (Ok x) e h is = absurd h
 memory_passed P (Err y) e h is = h ∙ is
 
--- A last call whose answer is passed on as it is.
+-- A last call whose answer is passed on unchanged.
 pub reads_as : {V P Q : Type 0} (r : Result V Stop) → (P → Q) → OnOk r P → IfErr r (λ stop. stop ≡ Memory) → MatchResult r (λ v. Q) (λ stop. stop ≡ Memory)
 reads_as (Ok x) f done failed = f done
 reads_as (Err e) f done failed = failed
@@ -74,7 +74,7 @@ module _ {T U : Type 0} {see : T → U} {N : Type 0} {R : U → Type 0} {S : U �
   pub refused : {e : Stop} → (N → (u : U) (x : List ℕ) → R u → TakesPhrase (S u) a x → FollowsValue x → ⊥) → ReadsText see N R S a (Err e) b
   refused none = record { value = tt; spelled = tt; accepted = λ names u x is k goes. absurd (none names u x is k goes) }
 
-  -- Memory is lacking.
+  -- An allocation failed.
   pub no_memory : (r : Result T Stop) (e : Stop) → IsErrAnd r (λ y. y ≡ e) → e ≡ Memory → ReadsText see N R S a r b
   no_memory (Ok v) e back is = absurd back
   no_memory (Err y) e back is = record { value = tt; spelled = tt; accepted = λ names u x what k goes. back ∙ is }
