@@ -1,4 +1,4 @@
--- What a call with two types finds and prints.
+-- The outcome of a call with two types, and its text.
 use Rattle.std.specs.Prelude.{◌≡◌, ◌⊎◌, ℕ, List, [], ◌∷◌, ◌++◌, Bool, true, false, ◌&&◌, codes}
 use Rattle.json.specs.Print.{quoted}
 use Rattle.postcard_schema.specs.Meaning.{type_of}
@@ -22,7 +22,7 @@ abbrev pub IsShown : Bool → Version → Version → Comparison → List ℕ �
 IsShown true writer reader c said = IsJson writer reader c said
 IsShown false writer reader c said = IsText writer reader c said
 
--- Whether a word does: `same`, and in frames `front`.
+-- Whether a verdict is good enough: `same`, and in frames also `front`.
 abbrev pub is_safe : Bool → Verdict → Bool
 is_safe framed Same = true
 is_safe framed Front = framed
@@ -79,6 +79,6 @@ pub record IsOutcome (options : Options) (old new : Schema) (said : List ℕ) (s
   pub new_type : reader.schema.now ≡ new
   pub outcome : IsOutcomeOf options.both options writer reader said safe
 
--- The failures of comparing and showing it.
+-- The failures of comparing two types and showing the outcome.
 abbrev pub FailsToShow : Bool → PrintError → Type 0
 FailsToShow json error = (error ≡ OutOfMemory) ⊎ ((error ≡ NoJson) × (json ≡ true))

@@ -1,4 +1,4 @@
--- What the rows of a frame's code bytes and of the bytes after a value are.
+-- Which rows a frame's code bytes have, and which the bytes after a value.
 use Rattle.std.specs.Prelude.{◌≡◌, ℕ, ◌+◌, not, eqb, false, List, [], ◌∷◌, ◌++◌, length}
 use Rattle.postcard_cobs.specs.Groups.{Groups}
 use Rattle.postcard_schema.specs.Meaning.{type_of}

@@ -27,7 +27,7 @@ rows_layout notation all lines = record { notation = notation; offset = offset_s
 
 -- ---- rows
 
--- A byte in hexadecimal, with a blank after it, and bytes so.
+-- A byte in hexadecimal digits, with a blank after it.
 abbrev pub spaced_byte : ℕ → List ℕ
 spaced_byte b = encode_lower (b ∷ []) ++ 32 ∷ []
 

@@ -19,14 +19,14 @@ use Rattle.pcard_print.specs.Lines.{IsJsonOf, offset}
 
 -- ---- text
 
--- What a part is called.
+-- The name of a part.
 abbrev pub title_text : Label → List ℕ
 title_text Whole = []
 title_text (Field r) = r.now
 title_text (Part i) = codes "." ++ decimal i
 title_text (Element i) = codes "[" ++ (decimal i ++ codes "]")
 
--- What stands between what a part is called and its value.
+-- What stands between the name of a part and its value.
 abbrev pub separator_text : Label → LineKind → List ℕ
 separator_text Whole kind = []
 separator_text _ Parts = codes ":"

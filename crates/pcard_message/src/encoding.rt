@@ -29,9 +29,9 @@ const BODY: usize = ENCODING + 16;
 /// The greatest size in bytes of a frame, its zero included.
 const FRAME: usize = BODY + BODY / 254 + 2;
 
-/// Encodes the value of a text, and prints its message in the format: the encoding, its checksum,
-/// and a frame around both, as the format says. It is printed as a line of hexadecimal digits. With
-/// `raw` it is printed as bytes alone.
+/// Encodes the value of a text, and prints its message. The format says whether a checksum follows
+/// the encoding, and whether both are in a frame. It is printed as a line of hexadecimal digits.
+/// With `raw` it is printed as bytes alone.
 ///
 /// # Errors
 ///

@@ -177,7 +177,7 @@ RefusalFails notation old new Output = ⊤
 RefusalFails notation old new OutOfMemory = (notation ≡ Json) × (new ≡ old)
 RefusalFails notation old new NoJson = ⊥
 
--- The failures of printing the line of a value, so too.
+-- The failures of printing the line of a value. If the output didn't fail, nothing was printed.
 abbrev pub ValueFails : Notation → Option (List ℕ) → Option (List ℕ) → PrintError → Type 0
 ValueFails notation old new Output = ⊤
 ValueFails notation old new e = (notation ≡ Json) × (new ≡ old)

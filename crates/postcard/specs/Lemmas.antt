@@ -49,7 +49,7 @@ pub use Rattle.postcard_de.proofs.Enums.{unknown_index}
 pub use Rattle.postcard_de_nodes.specs.SeenLemmas.{no_room}
 -- Errors of parts are among those of a type that allocates.
 pub use Rattle.postcard_de_nodes.specs.ErrorLemmas.{with_memory, only_memory}
--- A reading loop of a caller. The lemmas are on the state within a piece, on the answers to bytes in a row, and on the results of a feed by
+-- A reading loop of a caller. The lemmas are on the state within a piece, the answers to bytes in a row, and the results of a feed by
 -- `take_in`.
 pub use Rattle.postcard_accumulator.proofs.ReadLoop.{AtWindow, at_start, at_next, at_end, shorter}
 pub use Rattle.postcard_accumulator.proofs.Joining.{joined_law}

@@ -32,7 +32,7 @@ pub record SameRows (ones others : List MessageType) : Type 0 where
   pub serve : AllServe (row_of ones) (row_of others)
   pub are_served : AllServe (row_of others) (row_of ones)
 
--- At each index of the old variants.
+-- Each new variant serves the old variant at its index.
 abbrev pub VariantsServe : MessageTypes → MessageTypes → Type 0
 VariantsServe news olds = (i : ℕ) → SetServes (reads_at news i) (said_at news i) (reads_at olds i) (said_at olds i)
 

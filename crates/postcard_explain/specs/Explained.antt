@@ -75,7 +75,7 @@ mutual
         → IsIndex line.kind i (string_bytes x.name) → i < 2 ^ 32 → SpellsNum 32 i line.bytes.now
         → Explains most (deeper depth) whole x.content more → Explains most depth label s (line ∷ more)
 
-  -- The lines explain what has these parts.
+  -- The lines explain a value with these parts.
   pub data ExplainsRow (most : ℕ) : ℕ → PlainLabel → Row → List Line → Type 0 where
     of_row : (depth : ℕ) (label : PlainLabel) (row : Row) (inner : ℕ) (head more : List Line) → Opens depth label inner head
         → ExplainsParts most inner row more → ExplainsRow most depth label row (head ++ more)
@@ -116,7 +116,7 @@ ExplainsMore depth label item n lines = IsMore depth label n (bytes_of lines) li
 abbrev pub IsLast : List Line → Type 0
 IsLast lines = (lines ≡ []) ⊎ ((line : Line) × (lines ≡ line ∷ []) × (line.kind ≡ AfterValue))
 
--- The lines are those of a value of the schema at the start of the bytes and, if bytes follow it, a line for these. Of one list at most
+-- The lines are those of a value of the schema at the start of the bytes and, if bytes follow it, a line for these. In each list at most
 -- `most` elements have lines of their own.
 pub record IsExplained (most : ℕ) (schema : Schema) (bytes : List ℕ) (lines : List Line) : Type 0 where
   pub front : List Line

@@ -1,4 +1,4 @@
--- What a walk over bytes does that adds lines for them.
+-- What a walk over bytes does: it adds lines for them.
 use Rattle.std.specs.Prelude.{◌≡◌, ◌≢◌, ℕ, List, [], ◌++◌, Result, MatchResult}
 use Rattle.std.specs.Borrow.{Bor}
 use Rattle.postcard_wire.specs.declared.error.Error.{Error}

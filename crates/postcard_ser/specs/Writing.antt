@@ -1,4 +1,4 @@
--- What a call did whose task was to pass bytes to a flavor.
+-- The outcome of a call that passes bytes to a flavor.
 use Rattle.std.specs.Prelude.{◌≡◌, ◌⊎◌, ◌↔◌, ℕ, List, Result, IsOk, OnOk, OnErr, IfOk, IfErr}
 use Rattle.postcard_ser_flavors.specs.Flavor.{AppendsFront}
 use Rattle.postcard_ser_flavors.specs.declared.flavor.Flavor.{Ghosts}
@@ -19,9 +19,10 @@ IsWriteError text e = (e ≡ SerializeBufferFull) ⊎ (text × (e ≡ CollectStr
 abbrev pub IsErrorOf : {V : Type 0} → Shape V → V → Error → Type 0
 IsErrorOf s v e = IsWriteError s.text e ⊎ s.refusal v e
 
--- The call, whose task was to pass the bytes xs to the flavor s, returned r and left t. After a success, just xs is appended. If s has room
--- for xs, an error is one of `refusal`, with which the value refuses itself. Without room it may also be the error of a refused piece. If
--- it refuses itself by no error, and the flavor is tidy, an error leaves a beginning of xs appended. In any case pushes may leave t.
+-- A call that passes the bytes xs to the flavor s returned r and left the flavor t. After a success, just xs is appended. If s has room for
+-- xs, an error is one of `refusal`, with which the value refuses itself. Without room it may also be the error of a refused piece. If the
+-- value doesn't refuse itself and the flavor is tidy, an error leaves a prefix of xs appended. Whatever the result, pushes can lead from s
+-- to t.
 pub record Wrote {S O : Type 0} (F : Ghosts S O) (s : S) (xs : List ℕ) (refusal : Error → Type 0) (text : Type 0) (r : Result (Unit {0}) Error) (t : S) : Type 0 where
   pub appends : OnOk r (F.appended s xs t)
   pub has_room : F.room s xs → IfErr r refusal
@@ -42,13 +43,13 @@ pub record Encodes {V R : Type 0} (s : Shape V) (v : V) (says : R → Type 0) (r
   pub named_error : IfErr r (IsErrorOf s v)
   pub fits : OnOk r (s.fits v)
 
--- The same, of a call that asks for memory, which may run out.
+-- The same for a call that allocates, which may run out of memory.
 pub record EncodesGrowing {V R : Type 0} (s : Shape V) (v : V) (says : R → Type 0) (r : Result R Error) : Type 0 where
   pub gives : IfOk r says
   pub named_error : IfErr r (IsErrorOf s v)
   pub fits : OnOk r (s.fits v)
 
--- The call, whose task was to write the parts v of a row one after the other, returned r and left t.
+-- A call that writes the parts v of a row one after the other returned r and left the flavor t.
 abbrev pub WroteRow : {S O V : Type 0} → Ghosts S O → S → Row V → V → Result (Unit {0}) Error → S → Type 0
 WroteRow F s row v r t = Wrote F s (canonical_all (row.trees v)) (row.refusal v) row.text r t
 

@@ -77,7 +77,7 @@ IsLeafJson l t d = ⊥
 abbrev pub Reading : Type 1
 Reading = Tree → Data → Type 0
 
--- An option: `null`, or its content, which stands in an object `{"Some": ..}` if it may itself be `null`.
+-- An option: `null`, or its content. If the content's JSON may be `null`, it stands in an object `{"Some": ..}`.
 abbrev pub IsOptionJson : Bool → Reading → Reading
 IsOptionJson nullable R nodes.Absent d = d ≡ null
 IsOptionJson true R (nodes.Present t) d = (e : Data) × (d ≡ alone (codes "Some") e) × R t e

@@ -60,7 +60,7 @@ Accepts R S text r left = (t : Tree) (after : List ℕ) → R t → TakesPhrase 
 
 -- The answer r of a call that reads from the start of the text, and leaves `left`. What it reads is of R, and the text before `left`
 -- denotes it. N says that names tell values apart. If it holds, each prefix that denotes a tree of R is read as that tree, and just that
--- prefix is taken. It needs that what follows the prefix may follow a value, and that memory suffices.
+-- prefix is taken. This holds if what follows the prefix may follow a value and no allocation fails.
 pub record ReadsText {T V : Type 0} (see : V → T) (N : Type 0) (R : T → Type 0) (S : T → List ℕ → Type 0) (text : List ℕ) (r : Result V Stop) (left : List ℕ) : Type 0 where
   pub value : IfOk r (λ v. R (see v))
   pub spelled : IfOk r (λ v. TakesPhrase (S (see v)) text left)

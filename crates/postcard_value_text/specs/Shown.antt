@@ -96,7 +96,7 @@ abbrev pub array_text : Printer → Printer
 array_text p (nodes.Group ts) = items_text p ts
 array_text p t = None
 
--- The text of a map, of which p prints an entry.
+-- The text of a map. The printer p prints an entry.
 abbrev pub entries_text : Printer → Trees → Option (List ℕ)
 entries_text p ts = enclosed (codes "{") (joined (codes ", ") (all_by p ts)) (codes "}")
 
