@@ -1,4 +1,4 @@
--- Schemas by their kind, and parts one after the other.
+-- Lemmas for `serves`: when a schema serves another, by the kind of schema, and when a row serves another, part by part.
 use Rattle.std.proofs.Common.{◌≡◌, ℕ, zero, suc, ◌+◌, ◌<◌, ◌≤◌, List, [], ◌∷◌, length, get_or, drop, Vec, Box, refl, sym, ap, subst, ◌∙◌, arith}
 use Rattle.std.proofs.Math.Seq.{drop-cons}
 use Rattle.std.proofs.Math.ListN.{drop_of_length-le}

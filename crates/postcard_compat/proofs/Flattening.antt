@@ -1,4 +1,4 @@
--- What is flattened, by its kind; and rows, part after part.
+-- Lemmas for `flattened`: the flattened type has the same messages, by the kind of type. A row is built part by part.
 use Rattle.std.proofs.Common.{◌≡◌, ℕ, ◌+◌, ◌<◌, List, [], ◌∷◌, ◌++◌, map, length, length-append, get_or, take, Vec, Box, refl, sym, ap, subst, ◌∙◌, arith}
 use Rattle.std.proofs.Math.ListN.{replicate}
 use Rattle.std.proofs.lemmas.List.{map-append, replicate_more, take_more}

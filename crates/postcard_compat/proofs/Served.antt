@@ -1,4 +1,4 @@
--- What serves is made of parts that serve.
+-- A type serves another if its parts serve the other's parts.
 use Rattle.std.proofs.Common.{◌≡◌, ℕ, zero, suc, lit<, lit≤, inl, inr, List, [], ◌∷◌, ◌++◌, refl, sym, ap, ap₂, subst, ◌∙◌, arith}
 use Rattle.postcard_wire.specs.Number.{SpellsNum}
 use Rattle.postcard_wire.specs.Tree.{Tree, Trees, Absent, Present, Group, Seq, Variant, NoTrees, Then, count}

@@ -1,4 +1,4 @@
--- What is covered has its messages covered.
+-- If a set of trees is covered by another, its messages are messages of the other.
 use Rattle.std.proofs.Common.{ℕ, List}
 use Rattle.postcard_wire.specs.Tree.{Tree}
 use Rattle.postcard_described.specs.Within.{Covered}

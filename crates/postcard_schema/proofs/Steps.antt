@@ -1,4 +1,4 @@
--- The text of the first steps of a path, and of one step more.
+-- Lemma for the printing of a path: the text of the first steps, and of one step more.
 use Rattle.std.proofs.Common.{◌≡◌, ℕ, zero, suc, ◌+◌, ◌<◌, List, [], ◌∷◌, ◌++◌, map, length, take, get_or, sym, ap, ◌∙◌, arith}
 use native.Mathlib.Numerals.{add-one}
 use Rattle.std.proofs.lemmas.List.{append-nil, append_assoc}

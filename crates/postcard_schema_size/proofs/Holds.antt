@@ -1,4 +1,4 @@
--- The limit of a type holds of its messages.
+-- The limit of a type holds of its messages: none is longer, and some message has this size if it is reached.
 use Rattle.std.proofs.Common.{◌≡◌, ◌≤◌, ◌<◌, ◌*◌, ◌^◌, ℕ, zero, suc, refl, ap, ◌∙◌, subst, arith}
 use Rattle.std.specs.Prelude.{Option, Some}
 use Rattle.postcard_wire.specs.Tree.{Tree, Trees, Group, NoTrees, Then, count}

@@ -1,4 +1,4 @@
--- Lemmas on values that bytes encode, one after another, and on values that can't be read: if the whole can't, its next part can't.
+-- Lemmas on values that bytes encode, one after another. Others are on values that can't be read: if the whole can't, its next part can't.
 use Rattle.std.proofs.Common.{◌≡◌, inr, ℕ, zero, suc, ◌+◌, ◌<◌, ◌≤◌, ◌^◌, List, [], ◌∷◌, ◌++◌, length, get_or, take, refl, sym, ap, subst, ◌∙◌, arith, append_assoc, append-nil}
 use Rattle.std.specs.Prelude.{Vec, Box}
 use Rattle.std.specs.declared.alloc.Global.{Global}

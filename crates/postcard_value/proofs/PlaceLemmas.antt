@@ -1,4 +1,4 @@
--- Lemmas on the part in which reading a value stops, by that of what is in a row in it.
+-- Lemmas for `refused_at`: in which part reading a value stops. They lead from a whole to the first of its parts that can't be read.
 use Rattle.std.proofs.Common.{◌≡◌, ℕ, ◌+◌, ◌<◌, ◌^◌, inl, inr, List, [], ◌∷◌, ◌++◌, length, Option, None, Some, sym, ap, ◌∙◌, arith, append_assoc, append-nil, length-append}
 use Rattle.std.specs.Prelude.{Box}
 use Rattle.std.specs.Borrow.{Bor}

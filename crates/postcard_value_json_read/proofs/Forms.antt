@@ -1,4 +1,4 @@
--- Which form JSON has, by what looks into it.
+-- Which form JSON has, by the result of a function that looks into it, such as `as_array`.
 use Rattle.std.proofs.Common.{◌≡◌, ℕ, true, false, List, Some, None, refl}
 use Rattle.std.specs.Prelude.{is_some}
 use Rattle.serde_json.specs.Data.{Data, Num, Items, Members, null, boolean, number, string, object}

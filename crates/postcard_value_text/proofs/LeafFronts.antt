@@ -1,4 +1,4 @@
--- The value without parts that is at the start of a text.
+-- Lemmas on the value without parts at the start of a text: a text that denotes a tree of its type begins with it.
 use Rattle.std.proofs.Common.{◌≡◌, ℕ, Bool, true, false, List, [], ◌++◌, map, refl, sym, ap, subst, ◌∙◌}
 use Rattle.std.specs.Char.{encode_utf8, IsScalar}
 use Rattle.std.specs.Str.{IsTrimAsciiStart, IsUtf8}

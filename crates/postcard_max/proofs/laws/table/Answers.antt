@@ -1,4 +1,4 @@
--- The greatest sizes of long tuples, and of an end of a range: the index, and the value.
+-- The rows of the table that need a proof by hand: long tuples, and an end of a range, which is an index and a value.
 use Rattle.std.proofs.Common.{refl, arith}
 use Rattle.postcard_max.proofs.Greatest.{greatest_of_bound}
 use Rattle.postcard_max.proofs.laws.table.Goals as goal
