@@ -1,4 +1,4 @@
--- Lemmas on which failure of reading bytes comes when.
+-- Lemmas on when each failure of reading bytes comes.
 use Rattle.std.proofs.Common.{◌≡◌, ◌⊎◌, inl, inr, sym, subst, ℕ, List, Option, Result, Ok, Err}
 use Rattle.std.specs.Prelude.{IfErr}
 use Rattle.pcard_bytes.specs.Hexadecimal.{IsWrongHex}

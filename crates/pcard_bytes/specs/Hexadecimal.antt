@@ -1,4 +1,4 @@
--- The bytes of a text of hexadecimal digits, as it is pasted.
+-- The bytes of a pasted text of hexadecimal digits.
 use Rattle.std.specs.Prelude.{◌≡◌, ◌==◌, ◌⊎◌, ℕ, ◌+◌, ◌-◌, min, nat_eq, nat_le, Bool, true, not, ◌&&◌, ◌||◌, if◌then◌else◌, List, [], ◌∷◌, ◌++◌, length, take, drop, codes, Ok, IsErr}
 use Rattle.std.specs.List.{starts_with, slice_split, list_all, list_any, position_or_len}
 use Rattle.std.specs.Char.{is_ascii_hexdigit, is_ascii_whitespace}

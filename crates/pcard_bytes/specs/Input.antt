@@ -1,4 +1,4 @@
--- The bytes of a word of a call, or of the input, and why there are none.
+-- The bytes of an argument or of the input, and why there are none.
 use Rattle.std.specs.Prelude.{◌≡◌, ◌≢◌, ℕ, ◌≤◌, List, length, codes, Option}
 use Rattle.std.specs.Io.KnownBytes.{Consumes, IsAtEnd}
 use Rattle.pcard_bytes.specs.Hexadecimal.{SpellsBytes, IsWrongHex}
@@ -9,8 +9,8 @@ use Rattle.pcard_bytes.specs.declared.input.InputError.TheVariants.{BadHex, Read
 abbrev pub IsInput : Option (List ℕ) → Option (List ℕ) → List ℕ → Type 0
 IsInput known left bytes = Consumes known left bytes × IsAtEnd left
 
--- The bytes that the word HEX stands for: those that it denotes itself, or, if it is `-`, that the whole input denotes. It stands for no
--- other bytes.
+-- The bytes that the argument HEX stands for. If it is `-`, they are those that the whole input denotes. Otherwise they are those that HEX
+-- denotes. It stands for no other bytes.
 pub record StandsFor (hex : List ℕ) (known left : Option (List ℕ)) (bytes : List ℕ) : Type 0 where
   pub digits : List ℕ
   pub own : hex ≢ codes "-" → digits ≡ hex
@@ -18,7 +18,7 @@ pub record StandsFor (hex : List ℕ) (known left : Option (List ℕ)) (bytes : 
   pub are : SpellsBytes digits bytes
   pub only : (other : List ℕ) → SpellsBytes digits other → other ≡ bytes
 
--- The text of the digits of HEX: HEX itself, or, if it is `-`, the whole input.
+-- The text of the digits of HEX: the whole input if HEX is `-`, and else HEX itself.
 pub record IsDigitText (hex : List ℕ) (known left : Option (List ℕ)) (digits : List ℕ) : Type 0 where
   pub own : hex ≢ codes "-" → digits ≡ hex
   pub input : hex ≡ codes "-" → IsInput known left digits

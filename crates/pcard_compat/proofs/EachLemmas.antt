@@ -1,4 +1,4 @@
--- Texts in a row.
+-- Lemmas on texts in a row, one for each item of a list.
 use Rattle.std.proofs.Common.{◌≡◌, ℕ, ◌+◌, ◌<◌, List, [], ◌∷◌, ◌++◌, length, take, get_or, refl, sym, ap, subst, ◌∙◌, append_assoc}
 use Rattle.std.proofs.lemmas.List.{append-nil, take_more}
 use Rattle.pcard_compat.specs.Texts.{AreEach}

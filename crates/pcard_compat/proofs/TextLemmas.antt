@@ -4,7 +4,7 @@ use Rattle.std.specs.Fmt.{decimal}
 use Rattle.hex.specs.Hex.{encode_lower}
 use Rattle.pcard_print.specs.Lines.{more_text, noun_of}
 
--- What is said of bytes after a value.
+-- The words for the bytes after a value.
 pub more_said : (rest noun digits : List ℕ) → 0 < length rest → noun ≡ noun_of (length rest) → digits ≡ encode_lower rest
     → codes " and " ++ (decimal (length rest) ++ (codes " " ++ (noun ++ (codes " more: " ++ digits)))) ≡ more_text rest
 more_said [] noun digits some is hex = absurd (omega arith)

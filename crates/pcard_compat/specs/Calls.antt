@@ -1,4 +1,4 @@
--- How a call of some words ends: what it prints, and its exit status.
+-- How a call of `pcard compat` ends: what it prints, and its exit status.
 use Rattle.std.specs.Prelude.{◌≡◌, ◌⊎◌, ℕ, List, [], ◌∷◌, ◌++◌, Bool, true, false, codes, Option, Result, Ok, Err, string_bytes}
 use Rattle.std.specs.Io.KnownBytes.{Appends}
 use Rattle.postcard_schema.specs.declared.schema.Schema.{Schema}
@@ -16,7 +16,7 @@ use Rattle.pcard_compat.specs.declared.request.Options.{Options}
 use Rattle.pcard_compat.specs.declared.type_word.NoType.{NoType}
 use Rattle.pcard_compat.specs.declared.type_word.NoType.TheVariants.{File, Expression}
 
--- The words are reported as misused: by a line that says why, and by the usage. Or else the status is 3.
+-- Invalid arguments are reported by a line that says why, and by the usage. If they can't be reported, the status is 3.
 abbrev pub RefusesWords : Misuse → Option (List ℕ) → Option (List ℕ) → Option (List ℕ) → Option (List ℕ) → ℕ → Type 0
 RefusesWords misuse old new told now_told status =
     (status ≡ 3) ⊎ (Appends told now_told (codes "pcard: " ++ (misuse_text misuse ++ 10 ∷ [])) × AnswersFailure Usage old new status)
@@ -40,13 +40,13 @@ abbrev pub EndsCall : Result Outcome PrintError → Option (List ℕ) → Option
 EndsCall (Ok outcome) old new status = PrintsOutcome outcome old new status
 EndsCall (Err error) old new status = AnswersFailure (failure_of_print error) old new status
 
--- The words are no call, and are reported so.
+-- The arguments are invalid, and are reported so.
 pub record IsMisusedCall (words : Words) (old new told now_told : Option (List ℕ)) (status : ℕ) : Type 0 where
   pub misuse : Misuse
   pub is : IsMisuse words misuse
   pub reported : RefusesWords misuse old new told now_told status
 
--- The word OLD, or NEW if OLD stands for a type.
+-- The argument OLD, or NEW if OLD stands for a type.
 abbrev pub IsFirstLeft : (List ℕ → List ℕ → Type 0) → List ℕ → List ℕ → List ℕ → Type 0
 IsFirstLeft gives old_word new_word word = (word ≡ old_word) ⊎ (((schema : Schema) × IsTypeOf gives old_word schema) × (word ≡ new_word))
 
@@ -62,12 +62,12 @@ pub record IsUntypedCall (gives : List ℕ → List ℕ → Type 0) (lacks : Lis
   pub no_type : IsNoType gives lacks word why
   pub reported : RefusesType why old new told now_told status
 
--- What comparing two types by the options may give.
+-- A possible outcome of comparing two types by the options.
 abbrev pub FoundBy : Options → Schema → Schema → Result Outcome PrintError → Type 0
 FoundBy options old new (Ok outcome) = IsOutcome options old new (string_bytes outcome.text) outcome.is_safe
 FoundBy options old new (Err error) = FailsToShow options.json error
 
--- What comparing the types of the words found is printed, or its failure.
+-- The outcome of comparing the types of the arguments is printed, or its failure.
 pub record IsComparedCall (gives : List ℕ → List ℕ → Type 0) (words : Words) (old new told now_told : Option (List ℕ)) (status : ℕ) : Type 0 where
   pub options : Options
   pub old_word : List ℕ
@@ -82,7 +82,7 @@ pub record IsComparedCall (gives : List ℕ → List ℕ → Type 0) (words : Wo
   pub ended : EndsCall result old new status
   pub silent : now_told ≡ told
 
--- A call of these words ended in one of these ways.
+-- A call with these arguments ended in one of these ways.
 abbrev pub Answers : (List ℕ → List ℕ → Type 0) → (List ℕ → Type 0) → Words → Option (List ℕ) → Option (List ℕ) → Option (List ℕ) → Option (List ℕ) → ℕ → Type 0
 Answers gives lacks words old new told now_told status =
     IsMisusedCall words old new told now_told status

@@ -1,4 +1,4 @@
--- What a call with two types finds and prints.
+-- The outcome of a call with two types, and its text.
 use Rattle.std.specs.Prelude.{◌≡◌, ◌⊎◌, ℕ, List, [], ◌∷◌, ◌++◌, Bool, true, false, ◌&&◌, codes}
 use Rattle.json.specs.Print.{quoted}
 use Rattle.postcard_schema.specs.Meaning.{type_of}
@@ -22,13 +22,13 @@ abbrev pub IsShown : Bool → Version → Version → Comparison → List ℕ �
 IsShown true writer reader c said = IsJson writer reader c said
 IsShown false writer reader c said = IsText writer reader c said
 
--- Whether a word does: `same`, and in frames `front`.
+-- Whether a verdict is good enough: `same`, and in frames also `front`.
 abbrev pub is_safe : Bool → Verdict → Bool
 is_safe framed Same = true
 is_safe framed Front = framed
 is_safe framed verdict = false
 
--- The reader was compared with the writer, and this is what is said of it.
+-- The reader was compared with the writer, and this is the text of the result.
 pub record IsWay (options : Options) (writer reader : Version) (said : List ℕ) (safe : Bool) : Type 0 where
   pub comparison : Comparison
   pub compared : IsCompared (type_of writer.schema.now) (type_of reader.schema.now) comparison
@@ -79,6 +79,6 @@ pub record IsOutcome (options : Options) (old new : Schema) (said : List ℕ) (s
   pub new_type : reader.schema.now ≡ new
   pub outcome : IsOutcomeOf options.both options writer reader said safe
 
--- The failures of comparing and showing it.
+-- The failures of comparing two types and showing the outcome.
 abbrev pub FailsToShow : Bool → PrintError → Type 0
 FailsToShow json error = (error ≡ OutOfMemory) ⊎ ((error ≡ NoJson) × (json ≡ true))

@@ -1,4 +1,4 @@
--- Which words are a call, and why others are none.
+-- Which arguments are valid, and why others are not.
 use Rattle.std.specs.Prelude.{◌≡◌, ◌≢◌, ◌⊎◌, ℕ, nat_eq, List, [], ◌∷◌, ◌++◌, length, Bool, true, false, codes}
 use Rattle.std.specs.List.{starts_with}
 use Rattle.pcard_compat.specs.declared.request.Switch.{Switch}
@@ -40,15 +40,15 @@ begins_switch word = starts_with nat_eq word (codes "--")
 abbrev pub IsNewSwitch : Options → List ℕ → Switch → Type 0
 IsNewSwitch given word switch = (word ≡ switch_name switch) × (is_given switch given ≡ false)
 
--- The words are options, each new, and then words of which the first is no option. The first options are those that are given before,
--- the second ones those that are given then.
+-- The arguments are options, each given once, and then arguments whose first is no option. The first set of options is that before these
+-- arguments, and the second that after them.
 pub data SwitchesThen : Options → Words → Options → Words → Type 0 where
   at_end : (given : Options) → SwitchesThen given [] given []
   at_operand : (given : Options) (word : List ℕ) (words : Words) → begins_switch word ≡ false → SwitchesThen given (word ∷ words) given (word ∷ words)
   after : (given all : Options) (switch : Switch) (word : List ℕ) (words rest : Words) → IsNewSwitch given word switch
       → SwitchesThen (with_switch switch given) words all rest → SwitchesThen given (word ∷ words) all rest
 
--- The words are options, and then the two types.
+-- The arguments are options, and then the two types.
 abbrev pub IsRequest : Words → Options → List ℕ → List ℕ → Type 0
 IsRequest words options old new = SwitchesThen no_options words options (old ∷ new ∷ [])
 
@@ -58,21 +58,21 @@ IsBadSwitch given word (UnknownOption w) = (w.now ≡ word) × ((switch : Switch
 IsBadSwitch given word (Twice switch) = (word ≡ switch_name switch) × (is_given switch given ≡ true)
 IsBadSwitch given word Operands = ⊥
 
--- The first option that is wrong is so for this reason.
+-- The reason why the first wrong option is wrong.
 pub data IsMisused : Options → Words → Misuse → Type 0 where
   bad_switch : (given : Options) (word : List ℕ) (words : Words) (misuse : Misuse) → begins_switch word ≡ true → IsBadSwitch given word misuse
       → IsMisused given (word ∷ words) misuse
   later : (given : Options) (switch : Switch) (word : List ℕ) (words : Words) (misuse : Misuse) → IsNewSwitch given word switch
       → IsMisused (with_switch switch given) words misuse → IsMisused given (word ∷ words) misuse
 
--- The words after the options are not two.
+-- After the options come fewer than two arguments, or more.
 pub record HasOtherOperands (words : Words) : Type 0 where
   pub options : Options
   pub operands : Words
   pub read : SwitchesThen no_options words options operands
   pub count : length operands ≢ 2
 
--- The words are no call, for this reason.
+-- The arguments are invalid, for this reason.
 abbrev pub IsMisuse : Words → Misuse → Type 0
 IsMisuse words misuse = IsMisused no_options words misuse ⊎ ((misuse ≡ Operands) × HasOtherOperands words)
 

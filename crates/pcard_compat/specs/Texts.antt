@@ -30,7 +30,7 @@ verdict_name Refuses = codes "refuses"
 verdict_name Misread = codes "misread"
 verdict_name Differs = codes "differs"
 
--- What a word says, up to the name of the writer.
+-- The meaning of a verdict's word, up to the name of the writer.
 abbrev pub before_name_of : Verdict → Option Example → List ℕ
 before_name_of Same example = codes "each message of"
 before_name_of Front example = codes "each message of"
@@ -43,7 +43,7 @@ before_name_of Differs (Some example) = codes "some messages of"
 abbrev pub before_name : Comparison → List ℕ
 before_name c = before_name_of c.verdict c.example
 
--- What a word says after the name of the writer.
+-- The meaning of a verdict's word, after the name of the writer.
 abbrev pub after_name_of : Verdict → Option Example → List ℕ
 after_name_of Same example = codes "is read as the same value"
 after_name_of Front example = codes "is read as its first parts, and bytes after them are left"
@@ -66,7 +66,7 @@ abbrev pub place_name : List ℕ → List ℕ
 place_name [] = codes "the value"
 place_name (b ∷ path) = b ∷ path
 
--- The text is what each of a list says in a row.
+-- The text is that of the items of a list, one after another. P says which texts an item has.
 abbrev pub AreEach : {A : Type 0} → (A → List ℕ → Type 0) → List A → List ℕ → Type 0
 AreEach P [] said = said ≡ []
 AreEach P (x ∷ xs) said = (first : List ℕ) × (rest : List ℕ) × P x first × AreEach P xs rest × (said ≡ first ++ rest)
@@ -75,7 +75,7 @@ AreEach P (x ∷ xs) said = (first : List ℕ) × (rest : List ℕ) × P x first
 abbrev pub IsLine : Difference → List ℕ → Type 0
 IsLine d line = (what : List ℕ) × (line ≡ place_name (string_bytes d.path) ++ (codes ": " ++ (what ++ 10 ∷ [])))
 
--- The text is the one that is known of a value. Nothing is said of some values with floats.
+-- The text is that of the value, if it is specified. The text of some values with floats is not specified.
 abbrev pub Shows : Option (List ℕ) → List ℕ → Type 0
 Shows known shown = IfSome known (λ it. shown ≡ it)
 
@@ -98,7 +98,7 @@ IsExampleText writer reader (Some e) said =
     (shown : List ℕ) × (reading : List ℕ) × Shows (text (layout_of writer.schema.now) (tree e.value)) shown × IsReadingText reader e.bytes.items e.reading reading
     × (said ≡ side_name writer.side ++ (codes " writes " ++ (shown ++ (codes " as " ++ (encode_lower e.bytes.items ++ 10 ∷ reading)))))
 
--- The lines of a comparison: the word and what it says, the differences, the notes, and the example.
+-- The lines of a comparison: the verdict and its meaning, the differences, the notes, and the example.
 pub record IsText (writer reader : Version) (c : Comparison) (said : List ℕ) : Type 0 where
   pub differences : List ℕ
   pub notes : List ℕ

@@ -1,4 +1,4 @@
--- The type that a word of a call stands for, and when it stands for none.
+-- The type that an argument stands for, and when it stands for none.
 use Rattle.std.specs.Prelude.{◌≡◌, ◌⊎◌, ℕ, List}
 use Rattle.postcard_schema.specs.declared.schema.Schema.{Schema}
 use Rattle.postcard_schema_text.specs.Grammar.{IsExpression}
@@ -17,7 +17,7 @@ IsTextOf gives word text =
 abbrev pub IsTypeOf : (List ℕ → List ℕ → Type 0) → List ℕ → Schema → Type 0
 IsTypeOf gives word schema = (text : List ℕ) × IsTextOf gives word text × IsExpression schema text
 
--- The word stands for no type: the file has none, or the expression is refused.
+-- The argument stands for no type: the file has none, or the expression is refused.
 abbrev pub IsNoType : (List ℕ → List ℕ → Type 0) → (List ℕ → Type 0) → List ℕ → NoType → Type 0
 IsNoType gives lacks word (File file fault) = (name : List ℕ) × IsNameWord word file.now name × IsFaultOf gives lacks file.now name fault
 IsNoType gives lacks word (Expression failure) = (text : List ℕ) × IsTextOf gives word text × TypeFails text failure

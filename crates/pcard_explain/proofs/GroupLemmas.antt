@@ -57,6 +57,7 @@ a_zero group rest fits some = elim (cases_eq (length group) 254) [
 
 -- ---- frames
 
+-- The rows of a frame are those of its groups, one after another.
 pub groups_shown : (at : ℕ) (groups : List (List ℕ)) (last : List ℕ) → AreGroups groups → IsGroupData last
     → frame_notes at 0 (flat_map coded groups ++ coded last) ≡ group_notes at groups last
 groups_shown at [] last are is =

@@ -34,11 +34,13 @@ last_is xs o some is =
     let i = length xs - 1 in
     ap (λ (p : Open). take i xs ++ p ∷ []) is ∙ sym (take_more xs i o (omega arith)) ∙ take_all (i + 1) xs (omega arith)
 
+-- Removing the last open part, which is no less deep than the line, changes no path around a line of this depth.
 pub one_fewer : (xs : List Open) (o : Open) (d depth : ℕ) → 0 < length xs → o ≡ get_or xs (length xs - 1) o → depth ≤ o.depth → d ≤ depth
     → steps_in (take (length xs - 1) xs) d ≡ steps_in xs d
 one_fewer xs o d depth some is deep low =
     sym (not_around (take (length xs - 1) xs) o d depth deep low) ∙ ap (λ (ys : List Open). steps_in ys d) (last_is xs o some is)
 
+-- If the last open part is less deep than the line, it is around the line.
 pub last_around : (xs : List Open) (o : Open) (d : ℕ) → 0 < length xs → o ≡ get_or xs (length xs - 1) o → o.depth < d → o.steps ≡ steps_in xs d
 last_around xs o d some is less =
     sym (is_around (take (length xs - 1) xs) o d less) ∙ ap (λ (ys : List Open). steps_in ys d) (last_is xs o some is)

@@ -1,4 +1,4 @@
--- What the rows of a frame's code bytes and of the bytes after a value are.
+-- Which rows a frame's code bytes have, and which the bytes after a value.
 use Rattle.std.specs.Prelude.{◌≡◌, ℕ, ◌+◌, not, eqb, false, List, [], ◌∷◌, ◌++◌, length}
 use Rattle.postcard_cobs.specs.Groups.{Groups}
 use Rattle.postcard_schema.specs.Meaning.{type_of}
@@ -9,8 +9,8 @@ use Rattle.postcard_explain.specs.declared.line.Line.{Line}
 use Rattle.pcard_explain.specs.Notes.{Noted, code, end, frame_notes}
 use Rattle.pcard_explain.specs.Rows.{IsSplit}
 
--- The rows of groups, of which each but the last is followed by another. Each has a row for its code byte, which is the number of its bytes
--- and one. One row is for the zero after them. The data has a zero after each group that isn't full and that another group follows.
+-- The rows of groups, one after another. Each has a row for its code byte, which is the number of its bytes and one. One row is for the
+-- zero after them. The data has a zero after each group that isn't full and that another group follows.
 abbrev pub group_notes : ℕ → List (List ℕ) → List ℕ → List Noted
 group_notes at [] last =
     record { at = at; bytes = (length last + 1) ∷ []; note = code (length last + 1) false } ∷ record { at = at + (length last + 1); bytes = 0 ∷ []; note = end } ∷ []

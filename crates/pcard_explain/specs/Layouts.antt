@@ -1,4 +1,4 @@
--- Rows of text: an offset, bytes in hexadecimal, and what is said of them.
+-- Rows of text: an offset, bytes in hexadecimal, and a description of them.
 use Rattle.std.specs.Prelude.{◌≡◌, ℕ, ◌+◌, ◌*◌, ◌-◌, ◌≤◌, ◌⊎◌, min, max, nat_le, nat_lt, Bool, false, if◌then◌else◌, replicate, List, [], ◌∷◌, ◌++◌, length, take, drop, codes, Option}
 use Rattle.std.specs.List.{flat_map}
 use Rattle.std.specs.Int.{w64, to_be_bytes}
@@ -27,7 +27,7 @@ rows_layout notation all lines = record { notation = notation; offset = offset_s
 
 -- ---- rows
 
--- A byte in hexadecimal, with a blank after it, and bytes so.
+-- A byte in hexadecimal digits, with a blank after it.
 abbrev pub spaced_byte : ℕ → List ℕ
 spaced_byte b = encode_lower (b ∷ []) ++ 32 ∷ []
 
@@ -58,8 +58,8 @@ abbrev pub IsCut : Layout → List ℕ → List ℕ → Type 0
 IsCut layout text shown =
     (shown ≡ text) ⊎ ((layout.all ≡ false) × ((front : List ℕ) × (back : List ℕ) × (text ≡ front ++ back) × (shown ≡ front ++ codes "..")))
 
--- The row of bytes at this offset and depth, of which this text is said, cut. If rows may be cut, it has at most 80 bytes and its line
--- feed.
+-- The row of bytes at this offset and depth, with this text as their description. It may be cut. If rows may be cut, it has at most 80
+-- bytes and its line feed.
 abbrev pub IsRow : Layout → ℕ → ℕ → List ℕ → List ℕ → List ℕ → Type 0
 IsRow layout at depth bytes text row =
     (shown : List ℕ) × IsCut layout text shown × (row ≡ head_text layout at depth bytes ++ (shown ++ 10 ∷ []))

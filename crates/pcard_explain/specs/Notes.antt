@@ -12,10 +12,10 @@ use Rattle.pcard_explain.specs.declared.note.Note.{Note as NoteHere}
 use Rattle.pcard_explain.specs.declared.note.Note.TheVariants as notes
 use Rattle.pcard_explain.specs.declared.rows.Trailer.{Trailer as TrailerHere}
 
--- ---- what is said
+-- ---- what notes say
 
--- What a row says of its bytes. They are a checksum with a name, the bytes after the value, a group's code byte, a frame's last zero, or
--- the bytes after the frame. A code byte says whether a zero of the data follows its group.
+-- What a row says of its bytes. They are a named checksum, the bytes after the value, a group's code byte, a frame's last zero, or the
+-- bytes after the frame. A code byte says whether a zero of the data follows its group.
 pub data Note : Type 0 where
   checksum : List ℕ → Note
   after : Note
@@ -74,7 +74,7 @@ abbrev pub PrintsNoteIn : Notation → Layout → ℕ → List ℕ → Note → 
 PrintsNoteIn Text layout at bytes note old new = PrintsRow layout at 0 bytes (note_text note) old new
 PrintsNoteIn Json layout at bytes note old new = Appends old new (object_text (key_text note) at bytes [] (note_members note))
 
--- The row of bytes at this offset, of which this is said, is printed.
+-- The row of bytes at this offset, with this note, is printed.
 abbrev pub PrintsNote : Layout → ℕ → List ℕ → Note → Option (List ℕ) → Option (List ℕ) → Type 0
 PrintsNote layout = PrintsNoteIn layout.notation layout
 
@@ -113,13 +113,13 @@ rest_notes (Some t) at bytes =
 
 -- ---- frames
 
--- The data has a zero after the group of the code c: another group follows, and this one isn't full. n is the number of the frame's bytes
--- after the group.
+-- The data has a zero after the group of the code c: another group follows, and this one isn't full. The number n is that of the frame's
+-- bytes after the group.
 abbrev pub has_zero : ℕ → ℕ → Bool
 has_zero c n = nat_lt c 255 && nat_lt (c - 1) n
 
--- The rows of the bytes of a frame from this offset on: a row for each code byte, and one for the zero after the frame. The first `left`
--- bytes are those of a group.
+-- The rows of a frame's bytes from this offset on: one for each code byte, and one for the zero after the frame. The first `left` bytes are
+-- those of a group.
 abbrev pub frame_notes : ℕ → ℕ → List ℕ → List Noted
 frame_notes at left [] = record { at = at; bytes = 0 ∷ []; note = end } ∷ []
 frame_notes at left (b ∷ bytes) =

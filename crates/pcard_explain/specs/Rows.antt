@@ -25,18 +25,19 @@ PrintsLineIn Text layout at path line old new =
     IfSome (told_text line) (λ text. PrintsRow layout at line.depth line.bytes.now text old new)
 PrintsLineIn Json layout at path line old new = PrintsObject at path line old new
 
--- The row of a line at this offset, whose path has this text, is printed: as text, if something is said of the line's text.
+-- The row of a line at this offset is printed, with this text as its path. As text it is specified if the line's text is.
 abbrev pub PrintsLine : Layout → ℕ → List ℕ → Line → Option (List ℕ) → Option (List ℕ) → Type 0
 PrintsLine layout = PrintsLineIn layout.notation layout
 
--- The rows of lines are printed, in order, where `at` bytes and the lines `before` come before the first, the last of them first.
+-- The rows of lines are printed, in order. The first comes after `at` bytes and the lines `before`, which are given from the last to the
+-- first.
 abbrev pub PrintsLines : Layout → ℕ → List Line → List Line → Option (List ℕ) → Option (List ℕ) → Type 0
 PrintsLines layout at before [] old new = Appends old new []
 PrintsLines layout at before (line ∷ lines) old new =
     (mid : Option (List ℕ)) × PrintsLine layout at (plain_text (path_after before line)) line old mid
     × PrintsLines layout (at + length line.bytes.now) (line ∷ before) lines mid new
 
--- The lines are those of a value, and, if there are bytes after it, one of these.
+-- The lines are those of a value and, if there are bytes after it, a line of these bytes.
 abbrev pub IsSplit : List Line → List Line → List ℕ → Type 0
 IsSplit lines value after =
     ((line : Line) × (line.kind ≡ AfterValue) × (lines ≡ value ++ line ∷ []) × (after ≡ line.bytes.now))

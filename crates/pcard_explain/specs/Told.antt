@@ -1,4 +1,4 @@
--- What a row says of the bytes of a line, as text and as JSON.
+-- What a row says of a line's bytes, as text and as JSON.
 use Rattle.std.specs.Prelude.{◌≡◌, ℕ, nat_eq, if◌then◌else◌, List, [], ◌++◌, codes, Option, Some}
 use Rattle.std.specs.Fmt.{◌++?◌, decimal}
 use Rattle.hex.specs.Hex.{encode_lower}
@@ -19,14 +19,14 @@ use Rattle.pcard_print.specs.Lines.{IsJsonOf, offset}
 
 -- ---- text
 
--- What a part is called.
+-- The name of a part.
 abbrev pub title_text : Label → List ℕ
 title_text Whole = []
 title_text (Field r) = r.now
 title_text (Part i) = codes "." ++ decimal i
 title_text (Element i) = codes "[" ++ (decimal i ++ codes "]")
 
--- What stands between what a part is called and its value.
+-- What stands between the name of a part and its value.
 abbrev pub separator_text : Label → LineKind → List ℕ
 separator_text Whole kind = []
 separator_text _ Parts = codes ":"
@@ -44,7 +44,7 @@ expected_text expectations.Option = codes "an option: 00 or 01"
 expected_text expectations.Count = codes "the number of elements"
 expected_text expectations.Variant = codes "the index of a variant"
 
--- What a line's bytes are, or `None` if nothing is said of the text of a value, as for `dec`.
+-- What a line's bytes are, or `None` if the text of the value is not specified, as for `dec`.
 abbrev pub kind_text : LineKind → Option (List ℕ)
 kind_text (Value s v) = text (layout_of s.now) (tree v)
 kind_text Absent = Some (codes "None")
@@ -74,7 +74,7 @@ IsMembers (MoreElements n) members = members ≡ codes ",\"more\":" ++ decimal n
 IsMembers (Refused x) members = members ≡ codes ",\"expected\":\"" ++ (expected_text x ++ codes "\"")
 IsMembers AfterValue members = members ≡ codes ",\"rest\":true"
 
--- The row of bytes at an offset: the offset as the member `key`, the bytes, the member of a path, and the members that say what the bytes
+-- The row of bytes at an offset. It has the offset as the member `key`, the bytes, the member of a path, and the members that say what they
 -- are.
 abbrev pub object_text : List ℕ → ℕ → List ℕ → List ℕ → List ℕ → List ℕ
 object_text key at bytes field members =

@@ -142,9 +142,11 @@ pub record Printed (s : Format) (all rest : List ℕ) (old new : Option (List �
   pub found : List Found
   pub values : PrintsValues s 0 all found rest old new
 
+-- Before the first answer nothing is printed.
 pub none_printed : (s : Format) (all : List ℕ) (held : Option (List ℕ)) → Printed s all all held held
 none_printed s all held = record { found = []; values = (refl, Appends-nil held) }
 
+-- One answer more is printed after those before.
 pub one_printed : (s : Format) (all mid left : List ℕ) (old held new : Option (List ℕ)) → Printed s all mid old held → PrintsNext s (length all - length mid) mid left held new
     → Printed s all left old new
 one_printed s all mid left old held new d p =
@@ -158,12 +160,14 @@ one_printed s all mid left old held new d p =
 lacks : (n : Notation) → n ≡ Json → LacksLine n errors.WontImplement
 lacks n is = subst (λ (m : Notation). LacksLine m errors.WontImplement) (sym is) refl
 
+-- A failure of printing a value's line is one of the call.
 pub value_fails : (s : Format) (n : ℕ) (bytes : List ℕ) (old new mid last : Option (List ℕ)) (e : PrintError) → ValueFails s.notation mid last e
     → NextFails s n bytes old new (failure_of_print e)
 value_fails s n bytes old new mid last prints.Output h = tt
 value_fails s n bytes old new mid last prints.OutOfMemory h = inl refl
 value_fails s n bytes old new mid last prints.NoJson h = inr (lacks s.notation h.0)
 
+-- A failure of printing a refusal's line is one of the call.
 pub refusal_fails : (s : Format) (n : ℕ) (bytes : List ℕ) (old new mid last : Option (List ℕ)) (e : PrintError) → RefusalFails s.notation mid last e
     → NextFails s n bytes old new (failure_of_print e)
 refusal_fails s n bytes old new mid last prints.Output h = tt

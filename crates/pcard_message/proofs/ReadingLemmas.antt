@@ -67,6 +67,7 @@ data_cut s bytes rest v (behind, is, follows) =
     let cut = behind_cut s.checksum is.front behind rest follows in
     (is.front ++ cut.0, is.joins ∙ ap (λ (t : List ℕ). is.front ++ t) cut.1 ∙ sym (append_assoc is.front cut.0 rest))
 
+-- The remaining bytes are no longer than the data.
 pub data_within : (s : Format) (bytes rest : List ℕ) (v : Value) → ReadsData s bytes v rest → length rest ≤ length bytes
 data_within s bytes rest v is = let cut = data_cut s bytes rest v is in let n = ap length cut.1 ∙ length-append cut.0 rest in omega arith
 
@@ -74,6 +75,7 @@ drop_front : (xs ys : List ℕ) → drop (length xs) (xs ++ ys) ≡ ys
 drop_front [] ys = refl
 drop_front (x ∷ xs) ys = drop_front xs ys
 
+-- The remaining bytes are the end of the data.
 pub data_after : (s : Format) (bytes rest : List ℕ) (v : Value) → ReadsData s bytes v rest → drop (length bytes - length rest) bytes ≡ rest
 data_after s bytes rest v is =
     let cut = data_cut s bytes rest v is in
@@ -133,10 +135,12 @@ no_content s frame a none is = subst (λ (x : Answer). IsFrameAnswer s frame x) 
 
 -- ---- the first message or frame of some bytes
 
+-- The answer to bytes with a zero is that of the frame before it.
 pub first_frame : (s : Format) (bytes frame after : List ℕ) (a : Answer) → s.framed ≡ true → EndsFrame bytes frame after → (NoZero frame → IsFrameAnswer s frame a) → IsNext s bytes a after
 first_frame s bytes frame after a framed ends is =
     subst (λ (b : Bool). IsNextIn b s bytes a after) (sym framed) (inl (frame, ends, is ends.0))
 
+-- Bytes without a zero are refused since no zero ends the frame.
 pub endless_frame : (s : Format) (bytes : List ℕ) (a : Answer) → s.framed ≡ true → NoZero bytes → a ≡ refused (no_zero bytes) → IsNext s bytes a bytes
 endless_frame s bytes a framed free is = subst (λ (b : Bool). IsNextIn b s bytes a bytes) (sym framed) (inr (free, refl, is))
 

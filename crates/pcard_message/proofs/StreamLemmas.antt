@@ -232,10 +232,12 @@ ended_skipped s longest given before after first old was limit start count holds
 
 -- ---- pieces
 
+-- Taking no bytes changes no state and prints nothing.
 pub continues_none : (s : Format) (before : Stream) (old : Option (List ℕ)) → Continues s before [] before old old
 continues_none s before old longest given first h =
     let P : List ℕ → Type 0 = λ t. IsAfter s longest t before first old in subst P (sym (append-nil given)) h
 
+-- Taking a piece and then another is taking the two joined.
 pub continues_both : (s : Format) (a b c : Stream) (x y : List ℕ) (old mid new : Option (List ℕ)) → Continues s a x b old mid → Continues s b y c mid new
     → Continues s a (x ++ y) c old new
 continues_both s a b c x y old mid new p q longest given first h =

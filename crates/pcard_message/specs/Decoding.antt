@@ -8,7 +8,7 @@ use Rattle.pcard_message.specs.declared.failure.Failure.{Failure}
 use Rattle.pcard_message.specs.declared.failure.Failure.TheVariants.{Library, NoBytes, Output, Refused}
 use Rattle.pcard_message.specs.declared.format.Format.{Format}
 
--- Messages of the format may have no bytes: they have no frame and no checksum, and the type's have none.
+-- Messages of the format may have no bytes: they have no frame and no checksum, and those of the type may have no bytes.
 abbrev pub LacksBytes : Format → Type 0
 LacksBytes format = (format.framed ≡ false) × (format.checksum ≡ None) × (has_bytes (type_of format.schema) ≡ false)
 

@@ -37,7 +37,7 @@ IsValueOf format text v = SpellsIn format.notation format.schema v text × reads
 abbrev pub HasNoValue : Format → List ℕ → Type 0
 HasNoValue format text = (v : Value) → IsValueOf format text v → ⊥
 
--- The failures of reading a value: the text is none, and stops being one at this place.
+-- The failures of reading a value: the text denotes none, and stops being one at this place.
 abbrev pub ValueFails : Format → List ℕ → Failure → Type 0
 ValueFails format text (BadText character expected) =
     (format.notation ≡ Text) × HasNoValue format text × IsPlaceIn text (NotAValue character expected)
@@ -64,7 +64,7 @@ pub record IsPacked (format : Format) (v : Value) (out : List ℕ) : Type 0 wher
   pub is_body : IsBody format.checksum (canonical (tree v)) body
   pub wrapped : IsWrapped format.framed body out
 
--- The bytes as they are printed: as they are, or in hexadecimal on a line.
+-- The bytes as they are printed: raw, or in hexadecimal on a line.
 abbrev pub written : Bool → List ℕ → List ℕ
 written true bytes = bytes
 written false bytes = encode_lower bytes ++ 10 ∷ []

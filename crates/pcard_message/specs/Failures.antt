@@ -17,7 +17,7 @@ use Rattle.pcard_message.specs.declared.failure.Failure.{Failure}
 use Rattle.pcard_message.specs.declared.failure.Failure.TheVariants.{Usage, BadType, NoBytes, BadValue, BadText, BadJson, BadHex, BadHexAt, UnknownChecksum, Library, Refused, Output, Limit, ReadFailed}
 use Rattle.pcard_message.specs.declared.failure.Failure.TheVariants as failed
 
--- What is printed after a problem of an expression: of an unknown type, what would do.
+-- The hint that is printed after a problem of an expression. Only an unknown type has one.
 abbrev pub hint_text : Problem → List ℕ
 hint_text problems.UnknownType = codes ", pcard types lists them, and a variant alone has a `|` before it"
 hint_text problem = []

@@ -76,7 +76,7 @@ IsDataAnswer format content (refused w) = IsBadData format content w
 
 -- ---- a frame, without the zero that ends it
 
--- The refusal of a frame's data as that of the frame: it is at the frame's first byte, and shows the data.
+-- The refusal of a frame's data, as a refusal of the frame. Its offset is that of the frame's first byte, and it shows the data.
 abbrev pub in_frame : List ℕ → Why → Why
 in_frame content w = record w { offset = 0; shown = Some content }
 
@@ -136,7 +136,7 @@ pub record PrintsOne (format : Format) (bytes : List ℕ) (old new : Option (Lis
   pub is : IsNext format bytes (value value_of rest) after
   pub printed : PrintsFirst format.notation format.framed format.schema value_of rest after old new
 
--- The first message or frame of bytes is refused, and the line that says so is printed, where `before` bytes come before them.
+-- The first message or frame of bytes is refused, and the line that says so is printed. The bytes come after `before` others.
 pub record PrintsRefusal (format : Format) (before : ℕ) (bytes : List ℕ) (old new : Option (List ℕ)) : Type 0 where
   pub why : Why
   pub after : List ℕ
@@ -148,14 +148,14 @@ pub record Found : Type 0 where
   pub value_of : Value
   pub rest : List ℕ
 
--- The first message or frame of the bytes, before which there are `before`, is a value, whose line is printed.
+-- The first message or frame of the bytes, which come after `before` others, is a value, whose line is printed.
 pub record PrintsNext (format : Format) (before : ℕ) (bytes after : List ℕ) (old new : Option (List ℕ)) : Type 0 where
   pub found : Found
   pub is : IsNext format bytes (value found.value_of found.rest) after
   pub printed : PrintsValue format.notation format.schema before found.value_of found.rest old new
 
--- The bytes, before which there are `before`, are messages or frames with these values, one after another, and then `left`. The line of each
--- value is printed.
+-- The bytes, which come after `before` others, are messages or frames with these values, and then `left`. The line of each value is
+-- printed.
 abbrev pub PrintsValues : Format → ℕ → List ℕ → List Found → List ℕ → Option (List ℕ) → Option (List ℕ) → Type 0
 PrintsValues format before bytes [] left old new = (left ≡ bytes) × Appends old new []
 PrintsValues format before bytes (f ∷ more) left old new =

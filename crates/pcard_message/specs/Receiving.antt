@@ -1,4 +1,4 @@
--- The state of a stream between two pieces, what takes it on, and how a stream fails.
+-- The state of a stream between two pieces, how a piece changes it, and how reading a stream fails.
 use Rattle.std.specs.Prelude.{◌≡◌, ◌^◌, ◌-◌, ℕ, ◌<◌, ◌≤◌, ⊤, Bool, true, false, List, ◌++◌, length, Option}
 use Rattle.std.specs.Io.KnownBytes.{Consumes, IsAtEnd, Keeps}
 use Rattle.postcard_wire.specs.declared.error.Error.{Error}
@@ -35,7 +35,7 @@ Continues format before piece after old new =
 abbrev pub PrintsAnswerTo : Format → ℕ → ℕ → List ℕ → Option (List ℕ) → Option (List ℕ) → Type 0
 PrintsAnswerTo format longest at frame old new = (answer : Answer) × IsAnswerTo format longest frame answer × PrintsLine format at answer old new
 
--- Of the two states only the room for data differs.
+-- The two states differ only in the room for data.
 pub record IsSame (before after : Stream) : Type 0 where
   pub longest : after.longest ≡ before.longest
   pub held : after.held.items ≡ before.held.items
@@ -51,12 +51,12 @@ pub record Reads (format : Format) (before after : Stream) (known left old new :
   pub some : more ≡ true → 0 < length piece
   pub at_end : more ≡ false → IsAtEnd left
 
--- The error of a value that has no line in a notation: it has no JSON. That no value is so is not proved.
+-- The error of a value that has no line in a notation: it has no JSON. It is not proved that every value has JSON.
 abbrev pub LacksLine : Notation → Error → Type 0
 LacksLine Text e = ⊥
 LacksLine Json e = e ≡ WontImplement
 
--- The failure of `frames` for one of a line.
+-- The failure of `frames` for a line that isn't printed.
 abbrev pub line_failure : PrintError → Failure
 line_failure prints.Output = Output
 line_failure prints.OutOfMemory = OutOfMemory

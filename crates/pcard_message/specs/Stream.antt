@@ -12,7 +12,7 @@ use Rattle.pcard_message.specs.declared.format.Format.{Format}
 abbrev pub overfull : Why
 overfull = record { offset = 0; reason = Overfull; path = []; shown = None }
 
--- The answer is right for the frame, where a frame and the zero that ends it have at most `longest` bytes.
+-- The answer is right for the frame. A frame and its zero have at most `longest` bytes, or the answer is that it is too long.
 abbrev pub IsAnswerTo : Format → ℕ → List ℕ → Answer → Type 0
 IsAnswerTo format longest frame answer =
     ((length frame + 1 ≤ longest) × IsFrameAnswer format frame answer) ⊎ ((longest < length frame + 1) × (answer ≡ refused overfull))
@@ -36,15 +36,15 @@ bytes_of (a ∷ more) = (a.frame ++ 0 ∷ []) ++ bytes_of more
 abbrev pub PrintsLine : Format → ℕ → Answer → Option (List ℕ) → Option (List ℕ) → Type 0
 PrintsLine format at answer old new = PrintsAnswer format.notation format.schema at answer old new
 
--- The lines of answers are printed, in order, where `before` bytes of the stream come before the first frame.
+-- The lines of answers are printed, in order. The first frame comes after `before` bytes of the stream.
 abbrev pub PrintsLinesOf : Format → ℕ → List Answered → Option (List ℕ) → Option (List ℕ) → Type 0
 PrintsLinesOf format before [] old new = Appends old new []
 PrintsLinesOf format before (a ∷ more) old new =
     (mid : Option (List ℕ)) × PrintsLine format (offset before) a.answer old mid
     × PrintsLinesOf format (before + length a.frame + 1) more mid new
 
--- The line of bytes after the last zero, before which there are `before` bytes, is printed: one line if they are too long already, and else
--- none.
+-- The bytes after the last zero, which come after `before` bytes, have their line printed. It is one line if they are too long already, and
+-- else none.
 pub record PrintsRest (format : Format) (longest before : ℕ) (rest : List ℕ) (old new : Option (List ℕ)) : Type 0 where
   pub over : longest < length rest → PrintsLine format (offset before) (refused overfull) old new
   pub fits : length rest ≤ longest → Appends old new []

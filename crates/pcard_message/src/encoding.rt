@@ -29,8 +29,8 @@ const BODY: usize = ENCODING + 16;
 /// The greatest size in bytes of a frame, its zero included.
 const FRAME: usize = BODY + BODY / 254 + 2;
 
-/// Encodes the value of a text, and prints its message in the format: the encoding and its
-/// checksum, both in a frame if the format has one. It is printed as a line of hexadecimal digits.
+/// Encodes the value of a text, and prints its message. The format says whether a checksum follows
+/// the encoding, and whether both are in a frame. It is printed as a line of hexadecimal digits.
 /// With `raw` it is printed as bytes alone.
 ///
 /// # Errors
@@ -129,7 +129,7 @@ fn frame_of(body: &ArrayVec<u8, BODY>) -> ArrayVec<u8, FRAME>
     frame.finalize().unwrap()
 }
 
-/// Prints bytes as hexadecimal on a line, or with `raw` as they are.
+/// Prints bytes as a line of hexadecimal digits, or with `raw` as bytes alone.
 fn print_bytes<W: Write>(raw: bool, bytes: &[u8], output: &mut W) -> io::Result<()>
     ensures { OnOk result (Appends (W.contents output.old) (W.contents output.new)
         (written raw bytes.now)) }

@@ -1,4 +1,4 @@
--- What is found in the bytes of a message or a frame: a value, or why there is none.
+-- The answer to the bytes of a message or a frame: a value, or why there is none.
 use Rattle.std.specs.Prelude.{ℕ, List, Option, option_map}
 use Rattle.std.specs.Borrow.{Bor}
 use Rattle.postcard_schema.specs.Paths.{path_text}
@@ -16,15 +16,15 @@ pub record Why : Type 0 where
   pub path : List ℕ
   pub shown : Option (List ℕ)
 
--- Bytes as a list, wherever they are in memory.
+-- Bytes as a plain list, and not a place in memory.
 abbrev pub plain : Option (Bor (List ℕ)) → Option (List ℕ)
 plain shown = option_map (λ (bytes : Bor (List ℕ)). bytes.now) shown
 
--- A refusal as what it says, wherever its path and its bytes are in memory.
+-- A refusal as a plain value, without places in memory.
 abbrev pub why : Refusal → Why
 why r = record { offset = r.offset; reason = r.reason; path = path_text r.path.steps.items; shown = plain r.shown }
 
--- What is found: a value and the bytes of the data after it, or why there is none.
+-- An answer: a value and the bytes of the data after it, or why there is none.
 pub data Answer : Type 0 where
   value : Value → List ℕ → Answer
   refused : Why → Answer

@@ -25,7 +25,7 @@ use Rattle.pcard_print.specs.declared.notation.Notation.TheVariants.{Text, Json}
 use Rattle.pcard_print.specs.declared.refusal.Reason.{Reason}
 use Rattle.pcard_print.specs.declared.refusal.Reason.TheVariants.{Unread, BadChecksum, NoCobs, NoZero, Overfull}
 
--- The text is printed, if something is said of it.
+-- The text is printed, if it is specified.
 abbrev pub Prints : Option (List ℕ) → Option (List ℕ) → Option (List ℕ) → Type 0
 Prints said old new = IfSome said (λ printed. Appends old new printed)
 
@@ -113,12 +113,12 @@ more_text (b ∷ rest) =
     (codes " and " ++ (decimal (length (b ∷ rest)) ++ (codes " " ++ (noun_of (length (b ∷ rest)) ++ codes " more: "))))
     ++ encode_lower (b ∷ rest)
 
--- The line of a value and of the bytes after it, or `None` if nothing is said of its text.
+-- The line of a value and of the bytes after it, or `None` if its text is not specified.
 abbrev pub value_text : Schema → Value → List ℕ → Option (List ℕ)
 value_text schema v rest = text (layout_of schema) (tree v) ++? Some (more_text rest ++ 10 ∷ [])
 
 -- The text is the JSON (RFC 8259) of this data, without blanks and with control characters as escapes. Its items and members are in order,
--- each once. It is read as the data, if this nests at most 127 deep. Of the digits of a float only that is said.
+-- each once. It is read as the data, if this nests at most 127 deep. No more is specified of the digits of a float.
 pub record IsCompactText (d : Data) (text : List ℕ) : Type 0 where
   pub compact : text ≡ escaped (print (tokens text))
   pub in_order : IsInOrder text d
@@ -134,7 +134,7 @@ abbrev pub bytes_member : List ℕ → List ℕ → List ℕ
 bytes_member name [] = []
 bytes_member name (b ∷ bytes) = hex_member name (b ∷ bytes)
 
--- The line of a value's JSON: the offset of the value, the JSON, the bytes of the data after it, and the bytes after the frame.
+-- The line of a value as JSON: its offset, its JSON, the bytes of the data after it, and the bytes after the frame.
 abbrev pub value_json : ℕ → List ℕ → List ℕ → List ℕ → List ℕ
 value_json at text rest after =
     (codes "{\"at\":" ++ (decimal at ++ (codes ",\"value\":" ++ text)))
@@ -177,7 +177,7 @@ RefusalFails notation old new Output = ⊤
 RefusalFails notation old new OutOfMemory = (notation ≡ Json) × (new ≡ old)
 RefusalFails notation old new NoJson = ⊥
 
--- The failures of printing the line of a value, so too.
+-- The failures of printing the line of a value. If the output didn't fail, nothing was printed.
 abbrev pub ValueFails : Notation → Option (List ℕ) → Option (List ℕ) → PrintError → Type 0
 ValueFails notation old new Output = ⊤
 ValueFails notation old new e = (notation ≡ Json) × (new ≡ old)

@@ -95,7 +95,7 @@ module _ {V : Type 0} (s : Shape V) (v : V) (xs : List ℕ) (left : List ℕ →
   pub own_error : length xs ≤ length old → IfErr r (s.refusal v)
   own_error room = error_has (s.refusal v) (done.own_error room)
 
-  -- In any case it is one of a refusal by the flavor, or one by which the value refuses itself.
+  -- Each error is one of a refusal by the flavor, or one by which the value refuses itself.
   pub named_error : IfErr r (IsErrorOf s v)
   named_error = error_has (IsErrorOf s v) done.named_error
 

@@ -49,8 +49,8 @@ pub use Rattle.postcard_de.proofs.Enums.{unknown_index}
 pub use Rattle.postcard_de_nodes.specs.SeenLemmas.{no_room}
 -- Errors of parts are among those of a type that allocates.
 pub use Rattle.postcard_de_nodes.specs.ErrorLemmas.{with_memory, only_memory}
--- A reading loop of a caller. The lemmas are on the state within a piece that is fed, on the answers of bytes in a row, and on the results
--- of a feed that calls `take_in`.
+-- A reading loop of a caller. The lemmas are on the state within a piece, the answers to bytes in a row, and the results of a feed by
+-- `take_in`.
 pub use Rattle.postcard_accumulator.proofs.ReadLoop.{AtWindow, at_start, at_next, at_end, shorter}
 pub use Rattle.postcard_accumulator.proofs.Joining.{joined_law}
 pub use Rattle.postcard_accumulator.proofs.Taking.{read_consumed, read_over_full}
@@ -110,7 +110,7 @@ text_len u = length-append (digits (length u)) u
 pub seq_len : (ts : Trees) → length (canonical (Seq ts)) ≡ length (digits (count ts)) + length (canonical_all ts)
 seq_len ts = length-append (digits (count ts)) (canonical_all ts)
 
--- The length of parts in a row, as of a tuple, a struct or a list: that of the first part's encoding plus that of the others.
+-- The length of the parts of a tuple, a struct or a list is that of the first part plus that of the others.
 pub parts_len : (t : Tree) (ts : Trees) → length (canonical_all (Then t ts)) ≡ length (canonical t) + length (canonical_all ts)
 parts_len t ts = length-append (canonical t) (canonical_all ts)
 

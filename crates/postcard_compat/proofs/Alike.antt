@@ -13,6 +13,7 @@ same x = record { serves = itself (reads x) (said x); is_served = itself (reads 
 pub same_back : (x y : MessageType) → SameMessages x y → SameMessages y x
 same_back x y h = record { serves = h.is_served; is_served = h.serves }
 
+-- Having the same messages is transitive, and so is the same of rows.
 pub same_after : (x y z : MessageType) → SameMessages x y → SameMessages y z → SameMessages x z
 same_after x y z h k = record {
   serves = through (reads x) (said x) (reads y) (said y) (reads z) (said z) h.serves k.serves;
@@ -87,6 +88,7 @@ choice_same xs ys h =
     let g = said_at (row_of ys) in
     record { serves = choice_serves P f Q g (each_serves xs ys h); is_served = choice_serves Q g P f (each_serves ys xs (each_back xs ys h)) }
 
+-- Equal types have the same messages.
 pub same_by : (x y : MessageType) → x ≡ y → SameMessages x y
 same_by x y e = subst (λ z. SameMessages x z) e (same x)
 

@@ -1,4 +1,4 @@
--- Schemas by their kind, and parts one after the other.
+-- Lemmas for `serves`: when a schema serves another, by the kind of schema, and when a row serves another, part by part.
 use Rattle.std.proofs.Common.{◌≡◌, ℕ, zero, suc, ◌+◌, ◌<◌, ◌≤◌, List, [], ◌∷◌, length, get_or, drop, Vec, Box, refl, sym, ap, subst, ◌∙◌, arith}
 use Rattle.std.proofs.Math.Seq.{drop-cons}
 use Rattle.std.proofs.Math.ListN.{drop_of_length-le}
@@ -36,6 +36,7 @@ module _ (s n d e : Schema) (a b : Box Schema Global) (old_held : d ≡ a.value)
       (ap type_of new_is ∙ type_of_array b k) (ap type_of is ∙ (type_of_array a j ∙ ap (λ m. array m (type_of a.value)) same))
       (array_serves (reads (type_of b.value)) (said (type_of b.value)) (reads (type_of a.value)) (said (type_of a.value)) within k)
 
+-- A schema serves an option if it serves the option of each type that its content serves.
 pub of_option : (s n d e : Schema) (a : Box Schema Global) → d ≡ a.value → ((x : MessageType) → Serves (type_of e) x → Serves (type_of n) (option x))
     → Serves (type_of e) (type_of d) → s ≡ schemas.Option a → Serves (type_of n) (type_of s)
 of_option s n d e a held stands h is = rw (is, type_of_option a, ← held) (stands (type_of d) h)
@@ -89,6 +90,7 @@ of_enum s n v w is new_is h =
 
 -- ---- An option that is an enum
 
+-- An option reads an option if its content serves the other's content.
 pub option_as_option : (n : Schema) (d : Schema) (b : Box Schema Global) → n ≡ schemas.Option b → d ≡ b.value
     → (x : MessageType) → Serves (type_of d) x → Serves (type_of n) (option x)
 option_as_option n d b is held x h =
@@ -104,6 +106,7 @@ no_parts : (xs : List Schema) → length xs ≡ 0 → types_of xs ≡ no_types
 no_parts [] e = refl
 no_parts (x ∷ xs) e = absurd (omega (arith, e))
 
+-- An enum whose first variant has no bytes reads an option by its second variant.
 pub enum_as_option : (n : Schema) (v : Vec (Named Schema) Global) (a b : Named Schema) (ns : List Schema) → n ≡ schemas.Enum v → 1 < length v.items
     → a ≡ get_or v.items 0 a → b ≡ get_or v.items 1 b → SameMessages (type_of a.content) (group (types_of ns)) → length ns ≡ 0
     → (x : MessageType) → Serves (type_of b.content) x → Serves (type_of n) (option x)
@@ -132,6 +135,7 @@ parts_next ns os k n o ln en lo eo h all rest =
     (subst (λ ys. VariantsServe (types_of (n ∷ drop (k + 1) ns)) (types_of ys)) (sym (cut os k o lo eo))
     (variant_serves (type_of n) (type_of o) (types_of (drop (k + 1) ns)) (types_of (drop (k + 1) os)) h rest)))
 
+-- Past the last old variant nothing is left to compare.
 pub parts_end : (ns os : List Schema) (k : ℕ) {Z : Type 0} → length os ≤ k → (VariantsServe (types_of (drop k ns)) (types_of (drop k os)) → Z) → Z
 parts_end ns os k high all =
     all (subst (λ ys. VariantsServe (types_of (drop k ns)) (types_of ys)) (sym (drop_of_length-le os high)) (none_serve (types_of (drop k ns))))

@@ -1,4 +1,4 @@
--- What follows from serving.
+-- The laws of serving: it is reflexive and transitive, and what it says of the bytes of messages.
 use Rattle.std.proofs.Common.{◌≡◌, ℕ, List, ◌++◌, sym, ap, ◌∙◌}
 use Rattle.postcard_wire.specs.Tree.{Tree}
 use Rattle.postcard_wire.specs.Spelling.{Spells, canonical}

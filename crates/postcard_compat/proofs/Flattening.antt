@@ -1,4 +1,4 @@
--- What is flattened, by its kind; and rows, part after part.
+-- Lemmas for `flattened`: the flattened type has the same messages, by the kind of type. A row is built part by part.
 use Rattle.std.proofs.Common.{◌≡◌, ℕ, ◌+◌, ◌<◌, List, [], ◌∷◌, ◌++◌, map, length, length-append, get_or, take, Vec, Box, refl, sym, ap, subst, ◌∙◌, arith}
 use Rattle.std.proofs.Math.ListN.{replicate}
 use Rattle.std.proofs.lemmas.List.{map-append, replicate_more, take_more}
@@ -44,9 +44,11 @@ module _ (s d : Schema) (a b : Box Schema Global) (held : d ≡ a.value) (h : Sa
   pub flat_seq : s ≡ schemas.Seq a → SameMessages (type_of (schemas.Seq b)) (type_of s)
   flat_seq is = rw (is, type_of_seq a, type_of_seq b) (seq_same (type_of b.value) (type_of a.value) within)
 
+-- A type without parts is flattened to itself.
 pub leaf_same : (s d : Schema) (l : Leaf) → SameMessages (type_of d) (leaf l) → s ≡ schemas.Leaf l → SameMessages (type_of d) (type_of s)
 leaf_same s d l h is = rw (is, type_of_leaf l) h
 
+-- A map is flattened to a list of pairs.
 pub flat_map : (s k v : Schema) (a x b : Box Schema Global) (keys values entry : List MessageType) → k ≡ a.value → v ≡ x.value
     → SameRows keys (type_of k ∷ []) → SameRows values (type_of v ∷ []) → entry ≡ keys ++ values → SameMessages (type_of b.value) (group (row_of entry))
     → s ≡ schemas.Map a x → SameMessages (type_of (schemas.Seq b)) (type_of s)
@@ -57,24 +59,29 @@ flat_map s k v a x b keys values entry ek ev hk hv e h is =
     same_after (type_of b.value) (group (row_of entry)) (group (row_of old)) h (group_same entry old pair) in
     rw (is, type_of_map a x, type_of_seq b, ← ek, ← ev) (seq_same (type_of b.value) (entry_of (type_of k) (type_of v)) both)
 
+-- An enum is flattened variant by variant.
 pub flat_enum : (s : Schema) (v w : Vec (Named Schema) Global) → AllZip SameMessages (part_types w.items) (part_types v.items) → s ≡ schemas.Enum v
     → SameMessages (type_of (schemas.Enum w)) (type_of s)
 flat_enum s v w h is = rw (is, enum_row v, enum_row w) (choice_same (part_types w.items) (part_types v.items) h)
 
 -- ---- Types of several parts
 
+-- A row that is that of a type's parts is the row of the type.
 pub of_parts : (s : Schema) (row parts : List MessageType) → SameRows row parts → type_of s ≡ group (row_of parts) → SameRows row (type_of s ∷ [])
 of_parts s row parts h is =
     subst (λ z. SameRows row (z ∷ [])) (sym is) (rows_after row parts (group (row_of parts) ∷ []) h (parts_same parts))
 
+-- The row of a tuple is those of its parts, joined.
 pub flat_tuple : (s : Schema) (v : Vec Schema Global) (row : List MessageType) → SameRows row (map type_of v.items) → s ≡ schemas.Tuple v
     → SameRows row (type_of s ∷ [])
 flat_tuple s v row h is = of_parts s row (map type_of v.items) h (ap type_of is ∙ type_of_tuple v)
 
+-- The row of a struct is those of its fields, joined.
 pub flat_struct : (s : Schema) (v : Vec (Named Schema) Global) (row : List MessageType) → SameRows row (part_types v.items) → s ≡ schemas.Struct v
     → SameRows row (type_of s ∷ [])
 flat_struct s v row h is = of_parts s row (part_types v.items) h (ap type_of is ∙ struct_row v)
 
+-- The row of a short array is that of its element, as often as the array has elements.
 pub flat_array : (s d : Schema) (a : Box Schema Global) (n : ℕ) (element row : List MessageType) → d ≡ a.value → SameRows element (type_of d ∷ [])
     → SameRows row (array n (group (row_of element)) ∷ []) → s ≡ schemas.Array a n → SameRows row (type_of s ∷ [])
 flat_array s d a n element row held h k is =
@@ -84,15 +91,18 @@ flat_array s d a n element row held h k is =
     (rows_after row (one ∷ []) (other ∷ []) k
     (rows_one one other (array_same n (group (row_of element)) (type_of d) (whole_same element (type_of d) h))))
 
+-- An array of elements without bytes has the empty row.
 pub flat_empty : (es : List (Named Schema)) (n : ℕ) → es ≡ [] → SameRows [] (array n (group (row_of (part_types es))) ∷ [])
 flat_empty es n e = rw e (no_parts_same n)
 
+-- A long array stays an array of the flattened element.
 pub flat_kept : (d : Schema) (b : Box Schema Global) (n : ℕ) (es : List MessageType) → b.value ≡ d → SameMessages (type_of d) (group (row_of es))
     → SameMessages (type_of (schemas.Array b n)) (array n (group (row_of es)))
 flat_kept d b n es held h = rw (type_of_array b n, held) (array_same n (type_of d) (group (row_of es)) h)
 
 -- ---- A row as one type
 
+-- A struct has the messages of the group of its parts.
 pub struct_same : (v : Vec (Named Schema) Global) → SameMessages (type_of (schemas.Struct v)) (group (row_of (part_types v.items)))
 struct_same v = rw (struct_row v) (same (group (row_of (part_types v.items))))
 
@@ -100,6 +110,7 @@ last_alone : {A : Type 0} (xs ys : List A) (x : A) → length xs ≡ 1 → xs �
 last_alone xs [] x one e = e
 last_alone xs (y ∷ ys) x one e = absurd (omega (arith, one, ap length e, length-append ys (x ∷ [])))
 
+-- A row of one part is that part.
 pub only_same : (xs ys : List (Named Schema)) (x : Named Schema) → length xs ≡ 1 → xs ≡ ys ++ x ∷ []
     → SameMessages (type_of x.content) (group (row_of (part_types xs)))
 only_same xs ys x one e = rw (last_alone xs ys x one e) (part_same (type_of x.content))
@@ -110,10 +121,12 @@ next_types : {A : Type 0} (f : A → MessageType) (xs : List A) (i : ℕ) (x : A
     → map f (take (i + 1) xs) ≡ map f (take i xs) ++ f x ∷ []
 next_types f xs i x low is = ap (map f) (take_more xs i x low ∙ ap (λ z. take i xs ++ z ∷ []) (sym is)) ∙ map-append f (take i xs) (x ∷ [])
 
+-- One part more adds its row.
 pub row_more : {A : Type 0} (f : A → MessageType) (xs : List A) (i : ℕ) (x : A) (row inner new : List MessageType) → i < length xs → x ≡ get_or xs i x
     → SameRows row (map f (take i xs)) → SameRows inner (f x ∷ []) → new ≡ row ++ inner → SameRows new (map f (take (i + 1) xs))
 row_more f xs i x row inner new low is h k e = rw (e, next_types f xs i x low is) (rows_join row (map f (take i xs)) inner (f x ∷ []) h k)
 
+-- One variant more adds its flattened content.
 pub variant_more : (xs : List (Named Schema)) (i : ℕ) (x y : Named Schema) (flat new : List (Named Schema)) → i < length xs → x ≡ get_or xs i x
     → AllZip SameMessages (part_types flat) (part_types (take i xs)) → SameMessages (type_of y.content) (type_of x.content) → new ≡ flat ++ y ∷ []
     → AllZip SameMessages (part_types new) (part_types (take (i + 1) xs))
@@ -121,6 +134,7 @@ variant_more xs i x y flat new low is h k e =
     let f = λ (n : Named Schema). type_of n.content in
     rw (e, map-append f flat (y ∷ []), next_types f xs i x low is) (AllZip-push SameMessages (map f flat) (map f (take i xs)) (f y) (f x) h k)
 
+-- One element more adds its row.
 pub element_more : (row element new : List MessageType) (i : ℕ) → SameRows row (replicate i (group (row_of element))) → new ≡ row ++ element
     → SameRows new (replicate (i + 1) (group (row_of element)))
 element_more row element new i h e =
@@ -129,6 +143,7 @@ element_more row element new i h e =
 
 -- ---- Byte strings
 
+-- A list of `u8` has the messages of `bytes`.
 pub bytes_same : (b : Box Schema Global) (l : Leaf) → b.value ≡ schemas.Leaf (leaves.Integer U8) → l ≡ leaves.Bytes → SameMessages (type_of (schemas.Seq b)) (leaf l)
 bytes_same b l held is =
     let bytes = seq (leaf (leaves.Integer U8)) in

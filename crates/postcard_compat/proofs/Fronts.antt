@@ -33,6 +33,7 @@ group_front ns os h t (ts, e, q) =
     let (ss, more, r, says, all) = h ts q in
     (Group ss, more, (ss, refl, r), ap (said (group os)) e ∙ says, λ p k. let l : Spells (Group ts) p = rw e at k in all p l)
 
+-- If n serves m, m reads a prefix of what o writes, and o serves p, then n reads a prefix of what p writes.
 pub front_through : (n m o p : MessageType) → Serves n m → ServesFront m o → Serves o p → ServesFront n p
 front_through n m o p h k l t r =
     let (u, ru, same, spelled) = l t r in

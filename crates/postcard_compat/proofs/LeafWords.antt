@@ -10,6 +10,7 @@ use Rattle.postcard_value.specs.NumberLemmas.{spell_modulo, value_of_bytes}
 use Rattle.postcard_value.specs.Numbers.{bytes_of, integer_tree, order_of, signed_of}
 use Rattle.postcard_compat.specs.Said.{Number, fixed_number, integer_said}
 
+-- What an integer says is its number, whatever its width.
 pub integer_says : (i : Integer) (n : ℕ) → integer_said i (integer_tree i n) ≡ Number (fixed_number (is_signed i) (size_of i) (n % 256 ^ size_of i)) ∷ []
 integer_says U8 n = refl
 integer_says U16 n = refl

@@ -1,4 +1,4 @@
--- What reading some bytes says of them.
+-- What follows for bytes from the result of reading them.
 use Rattle.std.proofs.Common.{◌≡◌, ℕ, List, [], ◌++◌, length, sym, ap, subst, ◌∙◌, append-nil}
 use Rattle.std.proofs.lemmas.List.{append_cancel_left}
 use Rattle.postcard_wire.specs.Spelling.{Spells}

@@ -1,4 +1,4 @@
--- What serves is made of parts that serve.
+-- A type serves another if its parts serve the other's parts.
 use Rattle.std.proofs.Common.{◌≡◌, ℕ, zero, suc, lit<, lit≤, inl, inr, List, [], ◌∷◌, ◌++◌, refl, sym, ap, ap₂, subst, ◌∙◌, arith}
 use Rattle.postcard_wire.specs.Number.{SpellsNum}
 use Rattle.postcard_wire.specs.Tree.{Tree, Trees, Absent, Present, Group, Seq, Variant, NoTrees, Then, count}
@@ -12,6 +12,7 @@ use Rattle.postcard_compat.specs.Serving.{SetServes, RowServes, Serves, AllServe
 pub itself : (P : Tree → Type 0) (f : Saying) → SetServes P f P f
 itself P f t r = (t, r, refl, λ p k. k)
 
+-- Serving is transitive, for any sets of trees.
 pub through : (P : Tree → Type 0) (f : Saying) (Q : Tree → Type 0) (g : Saying) (R : Tree → Type 0) (h : Saying) → SetServes P f Q g → SetServes Q g R h → SetServes P f R h
 through P f Q g R h one two t r =
     let (s, q, same, spelled) = two t r in
@@ -55,12 +56,14 @@ module _ (P : Tree → Type 0) (f : Saying) (Q : Tree → Type 0) (g : Saying) (
       let says : array_said f (Group ss) ≡ array_said g (Group ts) = same in
       (Group ss, (ss, refl, many ∙ is, rs), says ∙ sym (ap (array_said g) e), λ p k. let l : Spells (Group ts) p = rw e at k in all p l)
 
+-- A group serves a group if its parts do.
 pub group_serves : (P : Trees → Type 0) (f : Trees → List Word) (Q : Trees → Type 0) (g : Trees → List Word) → RowServes P f Q g → SetServes (IsGroup P) (group_said f) (IsGroup Q) (group_said g)
 group_serves P f Q g h t (ts, e, q) =
     let (ss, r, same, all) = h ts q in
     let says : group_said f (Group ss) ≡ group_said g (Group ts) = same in
     (Group ss, (ss, refl, r), says ∙ sym (ap (group_said g) e), λ p k. let l : Spells (Group ts) p = rw e at k in all p l)
 
+-- An enum serves an enum if each variant serves the one at its index.
 pub choice_serves : (P : ℕ → Tree → Type 0) (f : ℕ → Saying) (Q : ℕ → Tree → Type 0) (g : ℕ → Saying) → ((i : ℕ) → SetServes (P i) (f i) (Q i) (g i)) → SetServes (IsVariant P) (choice_said f) (IsVariant Q) (choice_said g)
 choice_serves P f Q g h t (i, u, e, few, q) =
     let (s, r, same, spelled) = h i u q in
@@ -74,6 +77,7 @@ zero_spelled = record { digits = omega arith; count = lit≤ tt; value = refl }
 one_spelled : SpellsNum 32 1 (1 ∷ [])
 one_spelled = record { digits = omega arith; count = lit≤ tt; value = refl }
 
+-- An enum serves an option if its first two variants serve no value and the value.
 pub choice_serves_option : (a b x : MessageType) (more : MessageTypes) → Serves a (group no_types) → Serves b x
     → Serves (choice (then_type a (then_type b more))) (option x)
 choice_serves_option a b x more h k t (inl e) =

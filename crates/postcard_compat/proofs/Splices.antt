@@ -163,6 +163,7 @@ array_written_out x n =
           );
     }
 
+-- An array has the messages of its elements in a row.
 pub written_out_same : (x : MessageType) (n : ℕ) → SameRows (replicate n x) (array n x ∷ [])
 written_out_same x n =
     let xs = replicate n x in

@@ -20,14 +20,16 @@ pushed old new w e = ap words_of e ∙ map-append word_of old (w ∷ [])
 pub appends_then : (a b c : List Spoken) (x y : List Word) → Appends a b x → Appends b c y → Appends a c (x ++ y)
 appends_then a b c x y e f = f ∙ (ap (λ ws. ws ++ y) e ∙ append_assoc (words_of a) x y)
 
--- A loop that began with the words `start` has come to `now`: with what is left, all is said.
+-- A loop over parts began with the words `start` and has reached `now`. The words of the parts left complete those of all.
 abbrev pub Going : List Spoken → List Spoken → List Word → List Word → Type 0
 Going start now left all = words_of now ++ left ≡ words_of start ++ all
 
+-- The words of one part more, and those of the parts then left, complete those of all.
 pub going_on : (start now next : List Spoken) (x left all : List Word) → Going start now (x ++ left) all → Appends now next x
     → Going start next left all
 going_on start now next x left all h e = ap (λ ws. ws ++ left) e ∙ (append_assoc (words_of now) x left ∙ h)
 
+-- Once no part is left, the words are complete.
 pub going_ends : (start now : List Spoken) (left all : List Word) → Going start now left all → left ≡ [] → Appends start now all
 going_ends start now left all h e = sym (append-nil (words_of now)) ∙ (ap (λ ws. words_of now ++ ws) (sym e) ∙ h)
 
@@ -66,6 +68,7 @@ module _ (f : Saying) (items : List Value) where
 
 -- ---- Parts
 
+-- What the parts from this index on say.
 abbrev pub parts_left : List Schema → List Value → ℕ → List Word
 parts_left parts items k = said_all (types_of (drop k parts)) (trees (map tree (drop k items)))
 

@@ -12,6 +12,7 @@ use Rattle.postcard_compat.specs.declared.comparison.Relation.{Relation}
 use Rattle.postcard_compat.specs.declared.comparison.Relation.TheVariants.{Same, Front, Refuses, Unknown}
 use Rattle.postcard_compat.proofs.Consequences.{transitive}
 
+-- A type that serves another reads a prefix of each of its messages: the whole message.
 pub serves_is_front : (n o : MessageType) → Serves n o → ServesFront n o
 serves_is_front n o h t r =
     let (s, q, same, spelled) = h t r in

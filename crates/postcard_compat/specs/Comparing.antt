@@ -49,7 +49,7 @@ Shows old new e outcomes.Refused = IsRefused e.reading
 Shows old new e outcomes.Left = Unit {0}
 
 -- Let the new type read a message of the old one with bytes after it. What it reads has all bytes of the message, and says what the message
--- says. It may say more, of the bytes after it.
+-- says. It may say more, from the bytes after it.
 abbrev pub NeverMisreads : MessageType → MessageType → Type 0
 NeverMisreads new old =
     (t s : Tree) (p q x y : List ℕ) → reads old t → reads new s → Spells t p → Spells s q → p ++ x ≡ q ++ y
@@ -62,13 +62,13 @@ Relates new old relations.Front = ServesFront new old
 Relates new old relations.Refuses = NeverMisreads new old
 Relates new old relations.Unknown = Unit {0}
 
--- The change is one of a name that stands at another place.
+-- The change is a name that stands at another place.
 abbrev pub is_move : Change → Bool
 is_move (changes.Moved path) = true
 is_move (changes.VariantMoved variant name) = true
 is_move change = false
 
--- One of the differences is a name that stands at another place.
+-- One of the differences is a moved name.
 abbrev pub HasMove : List Difference → Type 0
 HasMove ds = (i : ℕ) × (d : Difference) × (i < length ds) × (d ≡ get_or ds i d) × (is_move d.what ≡ true)
 
@@ -84,7 +84,7 @@ Means old new ds example verdicts.Refuses = NeverMisreads new old × MatchOption
 Means old new ds example verdicts.Misread = MatchOption example ⊥ (IsMisread old new ds)
 Means old new ds example verdicts.Differs = Unit {0}
 
--- What a comparison says of the two types.
+-- What a comparison claims of the two types.
 pub record IsCompared (old new : MessageType) (c : Comparison) : Type 0 where
   -- The new type reads each message of the old one as the same.
   pub same : c.verdict ≡ verdicts.Same → Serves new old

@@ -22,7 +22,8 @@ IsMessage old bytes value = reads old (tree value) × Spells (tree value) bytes
 abbrev pub IsNoMessage : MessageType → List ℕ → Type 0
 IsNoMessage old bytes = (t : Tree) → reads old t → Spells t bytes → ⊥
 
--- What a type makes of some bytes: no first bytes encode one of its messages, or those before the last `left` bytes encode the value.
+-- The result of reading some bytes as a type. Either no prefix of the bytes encodes a message of the type. Or the bytes before the last
+-- `left` ones encode the value.
 abbrev pub IsReading : MessageType → List ℕ → Reading → Type 0
 IsReading new bytes (Refused error offset path) = HasNone new bytes
 IsReading new bytes (Read value left) =

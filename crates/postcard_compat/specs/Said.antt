@@ -12,9 +12,9 @@ use Rattle.postcard_schema.specs.Leaves.{float_size, is_signed, size_of}
 use Rattle.postcard_schema.specs.Meaning.{MessageType, MessageTypes, leaf, option, seq, array, group, choice, no_types, then_type}
 use Rattle.postcard_value.specs.Numbers.{bytes_of, order_of, signed_of}
 
--- One thing that is said: a value without parts, without its width, the number of a list's elements, or the index of a variant. An option
--- is said as an enum, with no value at index 0 and a value at index 1. What is said of an element of a list or of a variant's content ends
--- with `End`.
+-- One thing that a message says: a value without parts and without its width, the number of elements, or the index of a variant. An option
+-- is said as an enum, with no value at index 0 and a value at index 1. The words of an element of a list, and those of a variant's content,
+-- end with `End`.
 pub data Word : Type 0 where
   Truth : Bool → Word
   Number : ℤ → Word
@@ -67,7 +67,7 @@ option_said says Absent = Index 0 ∷ End ∷ []
 option_said says (Present t) = Index 1 ∷ (says t ++ End ∷ [])
 option_said says t = []
 
--- The elements of an array are said as the parts of a group: their number is the type's.
+-- The elements of an array are said like the parts of a group, without an end, since the type fixes their number.
 abbrev pub elements_said : Saying → Trees → List Word
 elements_said says NoTrees = []
 elements_said says (Then t ts) = says t ++ elements_said says ts

@@ -5,8 +5,8 @@ use Rattle.postcard_wire.specs.Spelling.{Spells, SpellsAll}
 use Rattle.postcard_schema.specs.Meaning.{MessageType, MessageTypes, reads, reads_all, reads_at, row_of}
 use Rattle.postcard_compat.specs.Said.{Word, Saying, said, said_all, said_at}
 
--- For each tree of the old set there is a tree of the new one that says the same, and each accepted encoding of the old tree is one of the
--- new tree.
+-- For each tree of the old set there is a tree of the new one that says the same. Each accepted encoding of the old tree is one of that new
+-- tree.
 abbrev pub SetServes : (new : Tree → Type 0) → Saying → (old : Tree → Type 0) → Saying → Type 0
 SetServes new says old old_says = (t : Tree) → old t → (s : Tree) × new s × (says s ≡ old_says t) × ((p : List ℕ) → Spells t p → Spells s p)
 
@@ -32,7 +32,7 @@ pub record SameRows (ones others : List MessageType) : Type 0 where
   pub serve : AllServe (row_of ones) (row_of others)
   pub are_served : AllServe (row_of others) (row_of ones)
 
--- At each index of the old variants.
+-- Each new variant serves the old variant at its index.
 abbrev pub VariantsServe : MessageTypes → MessageTypes → Type 0
 VariantsServe news olds = (i : ℕ) → SetServes (reads_at news i) (said_at news i) (reads_at olds i) (said_at olds i)
 

@@ -30,8 +30,8 @@ pub fn never_misread()
         → p ++ x ≡ q ++ y → (p ≡ q) × (said new s ≡ said old t) }
 {}
 
-/// If each new part serves the old part at its place, and the old row may be longer, each old
-/// message begins with a new message. The new message says the beginning of what the old one says.
+/// If each new part serves the old part at its place, each old message begins with a new message.
+/// The old row may be longer. The new message says the beginning of what the old one says.
 pub fn fronts()
     ensures none { (os : MessageTypes) → AllServeFront no_types os }
     ensures more { (n o : MessageType) (ns os : MessageTypes) → Serves n o → AllServeFront ns os

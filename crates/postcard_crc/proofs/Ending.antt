@@ -1,4 +1,4 @@
--- What a source that checks a checksum returns at its end.
+-- The result of ending a source that checks a checksum.
 use Rattle.std.proofs.Common.{◌≡◌, ℕ, ◌<◌, ◌≤◌, List, ◌++◌, length, inl, inr, ap, ◌∙◌, ⊎_elim, Result, Ok, Err, Bor, IfErr, IsErrOf, MatchResult}
 use Rattle.std.specs.Result.{IfOk}
 use Rattle.std.proofs.lemmas.Bool.{cases_lt}

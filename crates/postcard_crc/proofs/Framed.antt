@@ -1,4 +1,4 @@
--- A frame in a storage: the room that it has from the start.
+-- Lemmas on a frame in a storage that has room for it from the start.
 use Rattle.std.proofs.Common.{◌≡◌, ℕ, ◌+◌, ◌-◌, ◌^◌, ◌≤◌, List, [], length, Bool, subst, arith}
 use Rattle.postcard_cobs.specs.Groups.{Standing, made}
 use Rattle.postcard_ser_cobs.specs.Framing.{HoldsOpen, HasFrameRoom}

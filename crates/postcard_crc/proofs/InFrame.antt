@@ -1,4 +1,4 @@
--- What a call with a checksum returns for a frame, from what was read of its data.
+-- The result of a call with a checksum for a frame, from the result of reading the frame's data.
 use Rattle.std.proofs.Common.{◌≡◌, ◌⊎◌, inr, ℕ, List, [], ◌++◌, Err, IfOk, OnOk, refl, sym, subst}
 use Rattle.std.specs.Prelude.{Result, MatchResult, IfErr}
 use Rattle.std.proofs.lemmas.Result.{IfOk-weaker}

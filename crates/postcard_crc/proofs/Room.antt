@@ -1,4 +1,4 @@
--- What fits in a buffer of a known length.
+-- Lemmas on which messages fit in a buffer of a known length.
 use Rattle.std.proofs.Common.{◌≡◌, ℕ, ◌+◌, ◌≤◌, List, [], ◌++◌, length, take, ap, Result, Ok, Err, arith, length-append}
 use Rattle.std.specs.Result.{IfOk, IsOk}
 use Rattle.std.proofs.lemmas.List.{length-take}

@@ -38,7 +38,7 @@ module _ {V : Type 0} (shape : Shape V) (k : ℕ) (d : Progress) (frame : List �
   abbrev pub HasDataErrors : Type 0
   HasDataErrors = (content : List ℕ) → Groups frame content → HasExactErrors shape k d content r
 
-  -- All that is said of what a call returns for the frame.
+  -- All clauses on what a call returns for the frame.
   pub record IsReadOf : Type 0 where
     pub gives : IfOk r (ReadsFrameChecked shape.reads shape.value k d frame)
     pub accepts : AcceptsChecked

@@ -10,7 +10,7 @@ use Rattle.postcard_accumulator.specs.declared.answers.Answer.{Answer}
 use Rattle.postcard_accumulator.specs.declared.answers.Answer.TheVariants.{OverFull, DeserError}
 use Rattle.postcard_accumulator.specs.declared.answers.Answer.TheVariants.{Success}
 
--- The frame's data is an accepted encoding of a tree of the type, and then just its checksum in k bytes. v is the value of that tree.
+-- The frame's data is an accepted encoding of a tree of the type, and then just its checksum in k bytes. The value of that tree is v.
 pub record IsValueOf {T : Type 0} (shape : Shape T) (k : ℕ) (a : Parameters) (frame : List ℕ) (v : T)
     : Type 0 where
   pub content : List ℕ

@@ -1,4 +1,4 @@
--- Messages with their checksum after them, as they are read.
+-- Reading messages that have their checksum after them.
 use Rattle.std.specs.Prelude.{◌≡◌, ◌⊎◌, ℕ, ◌*◌, ◌<◌, ◌≤◌, List, [], ◌++◌, length, true, bit_xor}
 use Rattle.std.specs.Prelude.{Result, MatchResult}
 use Rattle.crc.specs.Crc.{Parameters, IsCrc, IsSound, message}

@@ -1,8 +1,9 @@
--- What is covered has its messages covered.
+-- If a set of trees is covered by another, its messages are messages of the other.
 use Rattle.std.proofs.Common.{ℕ, List}
 use Rattle.postcard_wire.specs.Tree.{Tree}
 use Rattle.postcard_described.specs.Within.{Covered}
 use Rattle.postcard_described.specs.Messages.{IsMessage}
 
+-- A message of a covered set is one of the covering set.
 pub message_inside : {F G : Tree → Type 0} → Covered F G → (p : List ℕ) → IsMessage F p → IsMessage G p
 message_inside h p (t, r, s) = let (u, g, k) = h t r in (u, g, k.there p s)

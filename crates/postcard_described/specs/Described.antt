@@ -1,4 +1,4 @@
--- What a schema says of a type: the type of its messages, and how its trees and those that are read are tied.
+-- A type and its schema: the type of the schema's messages, and the relation between the trees of both.
 use Rattle.std.specs.Prelude.{ℕ, zero, suc, ⊤, List, [], ◌∷◌, ◌++◌}
 use Rattle.postcard_wire.specs.Tree.{Tree, Trees}
 use Rattle.postcard_wire.specs.Reading.{IsOption, IsSeq, IsArray, IsThen, IsGroup, IsVariant, IsEnd}
@@ -21,9 +21,9 @@ pub record Described : Type 1 where
   pub has : Tree → Type 0
   -- The schema without names.
   pub message : MessageType
-  -- The type reads each tree of its schema. It doesn't where it refuses some, as `NonZeroU8` refuses 0.
+  -- The type reads each tree of its schema. A type that refuses values doesn't, as `NonZeroU8` refuses 0.
   pub exact : Type 0
-  -- Each tree that is read is one of the schema and, if the type is exact, the other way round.
+  -- Each tree that the type reads is one of the schema. If the type is exact, it reads each tree of the schema.
   pub within : Within exact has (reads message)
 
 -- The same of parts in a row.
@@ -73,7 +73,7 @@ no_parts = record { has = IsEnd; messages = []; exact = ⊤; within = end_within
 abbrev pub part_then : Described → RowDescribed → RowDescribed
 part_then d r = record { has = IsThen d.has r.has; messages = d.message ∷ r.messages; exact = d.exact × r.exact; within = then_within d.within r.within }
 
--- A group of parts, which are described as if they stood in the row.
+-- A group of parts within a row, described as if its parts stood in the row themselves.
 abbrev pub flat_then : RowDescribed → RowDescribed → RowDescribed
 flat_then d r = record { has = IsThen (IsGroup d.has) r.has; messages = d.messages ++ r.messages; exact = d.exact × r.exact; within = flat_within d.messages r.messages d.within r.within }
 

@@ -1,4 +1,4 @@
--- Two sets of trees that have the same encodings, or of which one has those of the other.
+-- When one set of trees has the encodings of another, and when two sets have the same encodings.
 use Rattle.std.specs.Prelude.{⊤}
 use Rattle.postcard_wire.specs.Tree.{Tree, Trees}
 use Rattle.postcard_described.specs.SameBytes.{SameBytes, SameRow, same_tree, same_row}
@@ -11,7 +11,7 @@ Covered F G = (t : Tree) → F t → (u : Tree) × G u × SameBytes t u
 abbrev pub RowCovered : (Trees → Type 0) → (Trees → Type 0) → Type 0
 RowCovered K L = (ts : Trees) → K ts → (us : Trees) × L us × SameRow ts us
 
--- The first set is covered by the second and, if `exact` holds, the other way round.
+-- The first set is covered by the second. If `exact` holds, the second is covered by the first.
 pub record Within (exact : Type 0) (few many : Tree → Type 0) : Type 0 where
   pub inside : Covered few many
   pub all : exact → Covered many few
@@ -34,7 +34,7 @@ itself {has} = record { inside = covers_itself has; all = λ _. covers_itself ha
 pub row_itself : {has : Trees → Type 0} → RowWithin ⊤ has has
 row_itself {has} = record { inside = row_covers_itself has; all = λ _. row_covers_itself has }
 
--- A set of which only something is known that is covered by another.
+-- A set that is covered by another, without the converse.
 pub some_of : {few many : Tree → Type 0} → Covered few many → Within ⊥ few many
 some_of h = record { inside = h; all = λ e. absurd e }
 
@@ -52,7 +52,7 @@ same_covered s c t f = c t (s.there t f)
 covered_same : {F G H : Tree → Type 0} → Same F G → Covered H G → Covered H F
 covered_same s c t h = let (u, g, k) = c t h in (u, s.back u g, k)
 
--- What a set is within, the same set is within too.
+-- A set that equals the first is within the same second set.
 pub within_same : {e : Type 0} {has other many : Tree → Type 0} → Same has other → Within e other many → Within e has many
 within_same s w = record { inside = same_covered s w.inside; all = λ e. covered_same s (w.all e) }
 

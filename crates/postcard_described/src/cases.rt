@@ -20,7 +20,7 @@ pub type VariantName<'a> = (&'a str, &'a [&'a str]);
 /// Variants in a row whose contents each have a schema: `NoCase`, or a `Case` of a type with
 /// [`HasSchema`], followed by others.
 pub trait SchemaCases: Cased {
-    /// What [`HasSchema`] says of a type, said of the content at each index.
+    /// As in [`HasSchema`], for the content at each index.
     ghost described: { CasesDescribed };
 
     /// Appends the schemas of the variants with these names. A variant past the last name has an

@@ -16,7 +16,7 @@ use std::alloc::Global;
 /// Parts in a row that each have a schema: `()`, or a `Part` of a type with [`HasSchema`], followed
 /// by other parts.
 pub trait SchemaParts: Parts {
-    /// What [`HasSchema`] says of a type, said of the parts.
+    /// As in [`HasSchema`], for the parts in a row.
     ghost described: { RowDescribed };
 
     /// Appends the schemas of the parts.
@@ -51,8 +51,8 @@ impl<A: HasSchema, R: SchemaParts> SchemaParts for Part<A, R> {
     ghost same = { then_same A.same R.same };
 }
 
-/// Returns the schema of parts in a row: that of a struct if there is a name for each part, and
-/// else that of a tuple.
+/// Returns the schema of parts in a row: a struct if there is a name for each part, and else a
+/// tuple.
 pub fn parts_schema<P: SchemaParts>(alloc: Global, names: &[&str]) -> Result<Schema>
     ensures typed { IfOk result (λ schema. type_of schema ≡ group (row_of P.described.messages)) }
     ensures named { 0 < length names.now → length names.now ≡ length P.described.messages

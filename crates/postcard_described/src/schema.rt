@@ -16,8 +16,8 @@ pub trait HasSchema: Shaped {
     /// schema. If the type is exact, it reads each tree of its schema.
     ghost described: { Described };
 
-    /// Returns the schema. If the type is written as a tuple and there is a name for each part, it
-    /// is the schema of a struct with these names.
+    /// Returns the schema. If the type is written as a tuple, and `names` has one name for each
+    /// part, it is a struct with these names.
     ///
     /// # Errors
     ///

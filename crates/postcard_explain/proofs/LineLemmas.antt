@@ -1,4 +1,4 @@
--- Lemmas on walks that add lines: one after another, and the lines of all bytes.
+-- Lemmas on walks that add lines: two walks one after the other, and a walk over all bytes.
 use Rattle.std.proofs.Common.{◌≡◌, ℕ, ◌+◌, List, [], ◌∷◌, ◌++◌, Result, Ok, Err, refl, sym, ◌∙◌, ap, subst, arith, inl, inr, append_assoc, append-nil}
 use Rattle.std.specs.Prelude.{◌≢◌, ◌-◌, min}
 use Rattle.std.specs.Borrow.{Bor}

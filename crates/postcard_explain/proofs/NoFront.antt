@@ -1,4 +1,4 @@
--- Bytes with lines up to a part that can't be read begin with no value: each value before that part is the only one there.
+-- If lines explain bytes up to a part that can't be read, the bytes begin with no value. Each value before that part is the only one there.
 use Rattle.std.proofs.Common.{◌≡◌, ℕ, zero, suc, ◌-◌, ◌<◌, List, [], ◌∷◌, ◌++◌, length, get_or, take, sym, ◌∙◌, ap, subst, arith, inl, inr, append_assoc, append-nil}
 use Rattle.std.proofs.lemmas.List.{append_cancel_left}
 use Rattle.postcard_wire.specs.Number.{SpellsNum}

@@ -27,10 +27,12 @@ schemas_named : (fs : List (Named Schema)) → schemas_of (named fs) ≡ content
 schemas_named [] = refl
 schemas_named (f ∷ fs) = ap (λ xs. f.content ∷ xs) (schemas_named fs)
 
+-- The type of a schema with parts is the group of their types.
 pub parts_type : (s : Schema) (row : Row) → HasParts s row → type_of s ≡ group (types_of (schemas_of row))
 parts_type s row (inl (v, is, same)) = rw (is, same, schemas_numbered 0 v.items) (type_of_tuple v)
 parts_type s row (inr (v, is, same)) = rw (is, same, schemas_named v.items) (type_of_struct v)
 
+-- The type of a schema with items is the list of the items' type.
 pub items_type : (s : Schema) (item : Item) → HasItems s item → type_of s ≡ seq (item_type item)
 items_type s item (inl (b, is, same)) = rw (is, same) (type_of_seq b)
 items_type s item (inr (k, v, is, same)) = rw (is, same) (type_of_map k v)
@@ -41,6 +43,7 @@ items_type s item (inr (k, v, is, same)) = rw (is, same) (type_of_map k v)
 abbrev pub row_depth : Row → ℕ
 row_depth row = greatest_depth (types_of (schemas_of row))
 
+-- A part of a row is no deeper than the row.
 pub part_depth : (row : Row) (i : ℕ) (label : PlainLabel) (s : Schema) → i < length row → (label, s) ≡ get_or row i (label, s)
     → depth (type_of s) ≤ row_depth row
 part_depth [] i label s low e = absurd (omega (arith, low))
@@ -49,6 +52,7 @@ part_depth (p ∷ ps) zero label s low e =
     omega (arith, same)
 part_depth (p ∷ ps) (suc i) label s low e = omega (arith, part_depth ps i label s (omega (arith, low)) e)
 
+-- The parts of a schema are less deep than the schema.
 pub parts_depth : (s : Schema) (row : Row) → HasParts s row → row_depth row < depth (type_of s)
 parts_depth s row h = rw (parts_type s row h) (omega arith)
 

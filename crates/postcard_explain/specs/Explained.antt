@@ -39,16 +39,16 @@ abbrev pub IsIndex : LineKind → ℕ → List ℕ → Type 0
 IsIndex (Variant i r) j name = (i ≡ j) × (r.now ≡ name)
 IsIndex _ j name = ⊥
 
--- The lines before the parts of a tuple, a struct, an array or an entry, and the depth of the parts: none for the whole value, else one
--- without bytes.
+-- The lines before the parts of a tuple, a struct, an array or an entry, and the depth of the parts. There is one line without bytes, but
+-- none for the whole value.
 abbrev pub Opens : ℕ → PlainLabel → ℕ → List Line → Type 0
 Opens depth whole inner lines = (inner ≡ depth) × (lines ≡ [])
 Opens depth label inner lines =
     (line : Line) × IsAt depth label line × (line.kind ≡ Parts) × (line.bytes.now ≡ []) × (inner ≡ deeper depth) × (lines ≡ line ∷ [])
 
 mutual
-  -- The lines explain a value of the schema at this depth and with this label, where of one list at most `most` elements have lines
-  -- of their own.
+  -- The lines explain a value of the schema at this depth and with this label. In each list at most `most` elements have lines of their
+  -- own.
   pub data Explains (most : ℕ) : ℕ → PlainLabel → Schema → List Line → Type 0 where
     -- A value without parts.
     of_leaf : (depth : ℕ) (label : PlainLabel) (s : Schema) (line : Line) (l : Leaf) (v : AValue) → s ≡ schemas.Leaf l → IsAt depth label line
@@ -75,7 +75,7 @@ mutual
         → IsIndex line.kind i (string_bytes x.name) → i < 2 ^ 32 → SpellsNum 32 i line.bytes.now
         → Explains most (deeper depth) whole x.content more → Explains most depth label s (line ∷ more)
 
-  -- The lines explain what has these parts.
+  -- The lines explain a value with these parts.
   pub data ExplainsRow (most : ℕ) : ℕ → PlainLabel → Row → List Line → Type 0 where
     of_row : (depth : ℕ) (label : PlainLabel) (row : Row) (inner : ℕ) (head more : List Line) → Opens depth label inner head
         → ExplainsParts most inner row more → ExplainsRow most depth label row (head ++ more)
@@ -93,8 +93,7 @@ mutual
     of_entry : (depth : ℕ) (label : PlainLabel) (k v : Schema) (lines : List Line) → ExplainsRow most depth label (entry_row k v) lines
         → ExplainsItem most depth label (entry k v) lines
 
-  -- The lines explain n items, each with its number: the first `most` by lines of their own, and those after them, if there are some, by
-  -- one line.
+  -- The lines explain n items, each with its number. The first `most` have lines of their own. Those after them share one line.
   pub data ExplainsElements (most : ℕ) : ℕ → Item → ℕ → List Line → Type 0 where
     no_elements : (depth : ℕ) (item : Item) → ExplainsElements most depth item 0 []
     one_element : (depth : ℕ) (item : Item) (n : ℕ) (lines more : List Line) → n < most → ExplainsElements most depth item n lines
@@ -117,7 +116,7 @@ ExplainsMore depth label item n lines = IsMore depth label n (bytes_of lines) li
 abbrev pub IsLast : List Line → Type 0
 IsLast lines = (lines ≡ []) ⊎ ((line : Line) × (lines ≡ line ∷ []) × (line.kind ≡ AfterValue))
 
--- The lines are those of a value of the schema at the start of the bytes and, if bytes follow it, a line for these. Of one list at most
+-- The lines are those of a value of the schema at the start of the bytes and, if bytes follow it, a line for these. In each list at most
 -- `most` elements have lines of their own.
 pub record IsExplained (most : ℕ) (schema : Schema) (bytes : List ℕ) (lines : List Line) : Type 0 where
   pub front : List Line

@@ -1,4 +1,4 @@
--- What the parts of a value are called, and which parts a value of a schema has.
+-- The labels of the parts of a value, and which parts a value of a schema has.
 use Rattle.std.specs.Prelude.{◌≡◌, ℕ, ◌+◌, ◌⊎◌, List, [], ◌∷◌, Vec, Box, string_bytes}
 use Rattle.std.specs.declared.alloc.Global.{Global}
 use Rattle.postcard_schema.specs.declared.schema.Named.{Named}
@@ -55,7 +55,7 @@ HasParts s row =
     ((v : Vec Schema Global) × (s ≡ schemas.Tuple v) × (row ≡ numbered 0 v.items))
     ⊎ ((v : Vec (Named Schema) Global) × (s ≡ schemas.Struct v) × (row ≡ named v.items))
 
--- What a list or an array has: values of a schema, or, if it is a map, entries.
+-- The items of a list, an array or a map: values of a schema, or entries.
 pub data Item : Type 0 where
   value : Schema → Item
   entry : Schema → Schema → Item

@@ -17,8 +17,8 @@ use Rattle.postcard_explain.specs.Explained.{ExplainsElements, ExplainsMore, Exp
 use Rattle.postcard_explain.specs.Parts.{PlainLabel, whole, at_element, Row, HasParts, entry_row, Item, value, entry, HasItems}
 
 mutual
-  -- The lines explain the parts of a value of the schema, at this depth and with this label, up to one that can't be read. The last
-  -- line is that one's: it says what is expected there, with which its bytes don't begin.
+  -- The lines explain the parts of a value of the schema, at this depth and with this label, up to one that can't be read. The last line is
+  -- that of this part. It says what is expected there.
   pub data Refuses (most : ℕ) : ℕ → PlainLabel → Schema → List Line → Type 0 where
     -- A value without parts, the first byte of an option, the count of a list or a map, and the index of a variant.
     no_leaf : (depth : ℕ) (label : PlainLabel) (s : Schema) (line : Line) (l : Leaf) → s ≡ schemas.Leaf l → IsAt depth label line
@@ -30,8 +30,8 @@ mutual
     no_index : (depth : ℕ) (label : PlainLabel) (s : Schema) (line : Line) (variants : Vec (Named Schema) Global) → s ≡ schemas.Enum variants
         → IsAt depth label line → line.kind ≡ Refused expectations.Variant → HasNoIndex (length variants.items) line.bytes.now
         → Refuses most depth label s (line ∷ [])
-    -- A part of a value, with the lines that the value has before it. It is the content of an option or a variant, an element of a list, a
-    -- map or an array, or a part of a tuple or a struct.
+    -- A part of a value, with the lines that the value has before it. It is the content of an option or a variant, an item of a list or a
+    -- map, or a part of a tuple or a struct.
     in_present : (depth : ℕ) (label : PlainLabel) (s : Schema) (line : Line) (content : Box Schema Global) (more : List Line)
         → s ≡ schemas.Option content → IsAt depth label line → line.kind ≡ Present → line.bytes.now ≡ 1 ∷ []
         → Refuses most (deeper depth) whole content.value more → Refuses most depth label s (line ∷ more)
@@ -48,7 +48,7 @@ mutual
         → IsIndex line.kind i (string_bytes x.name) → i < 2 ^ 32 → SpellsNum 32 i line.bytes.now
         → Refuses most (deeper depth) whole x.content more → Refuses most depth label s (line ∷ more)
 
-  -- The same of one of these parts: those before it are explained.
+  -- The same for one of these parts. The parts before it are explained.
   pub data RefusesRow (most : ℕ) : ℕ → PlainLabel → Row → List Line → Type 0 where
     in_row : (depth : ℕ) (label : PlainLabel) (row : Row) (inner : ℕ) (head more : List Line) → Opens depth label inner head
         → RefusesParts most inner row more → RefusesRow most depth label row (head ++ more)
@@ -65,13 +65,13 @@ mutual
     in_entry : (depth : ℕ) (label : PlainLabel) (k v : Schema) (lines : List Line) → RefusesRow most depth label (entry_row k v) lines
         → RefusesItem most depth label (entry k v) lines
 
-  -- The same of one of n items: those before it have the lines that they have in a list of these alone.
+  -- The same for one of n items. The items before it have the lines of a list of these alone.
   pub data RefusesElements (most : ℕ) : ℕ → Item → ℕ → List Line → Type 0 where
     in_element : (depth : ℕ) (item : Item) (n i : ℕ) (lines more : List Line) → i < n → ExplainsElements most depth item i lines
         → RefusesItem most depth (at_element i) item more → RefusesElements most depth item n (lines ++ more)
 
--- The lines are those of one of n items that can't be read, whose number is `most` or more. Before it is the line for the items from number
--- `most` on, if there are some.
+-- The lines are those of one of n items that can't be read, whose number is `most` or more. Before them comes the line for the items from
+-- number `most` on, if there are some.
 abbrev pub RefusesMore : ℕ → ℕ → Item → ℕ → List Line → Type 0
 RefusesMore most depth item n lines =
     (i : ℕ) × (head : List Line) × (more : List Line) × (most ≤ i) × (i < n) × ExplainsMore depth (at_element most) item (i - most) head

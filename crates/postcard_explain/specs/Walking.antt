@@ -1,4 +1,4 @@
--- What a walk over bytes does that adds lines for them.
+-- What a walk over bytes does: it adds lines for them.
 use Rattle.std.specs.Prelude.{◌≡◌, ◌≢◌, ℕ, List, [], ◌++◌, Result, MatchResult}
 use Rattle.std.specs.Borrow.{Bor}
 use Rattle.postcard_wire.specs.declared.error.Error.{Error}
@@ -19,7 +19,7 @@ Adds kind old bytes new rest = (more : List Line) × kind more × (new ≡ old +
 abbrev pub Stops : (List Line → Type 0) → List Line → List ℕ → List Line → Error → Type 0
 Stops kind old bytes new e = IsReadError memory e × (e ≢ OutOfMemory → Adds kind old bytes new [])
 
--- What a walk over the bytes did. Either it added lines of the first kind for a prefix of the bytes, and returned the bytes after it, or it
+-- What a walk over the bytes did. It added lines of the first kind for a prefix of the bytes, and returned the remaining bytes. Or it
 -- stopped, with lines of the second kind.
 abbrev pub Walks : (List Line → Type 0) → (List Line → Type 0) → List Line → List ℕ → List Line → Result (Bor (List ℕ)) Error → Type 0
 Walks kind stopped old bytes new result = MatchResult result (λ rest. Adds kind old bytes new rest.now) (Stops stopped old bytes new)

@@ -45,7 +45,7 @@ pub enum LineKind<'a> {
     Variant(u32, &'a str),
     /// No bytes: a tuple, a struct, an array or an entry, whose parts are on the lines after it.
     Parts,
-    /// This many elements or entries, one after another, of which the line's label is the first.
+    /// This many elements or entries, one after another. The line's label is that of the first.
     MoreElements(u64),
     /// A part that can't be read, with all bytes after it, and what was expected.
     Refused(Expected),

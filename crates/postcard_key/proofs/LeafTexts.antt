@@ -20,6 +20,7 @@ abbrev with_integers : (Integer → Leaf) → List Leaf → List Leaf
 with_integers make ls =
     make U8 ∷ make U16 ∷ make U32 ∷ make U64 ∷ make U128 ∷ make I8 ∷ make I16 ∷ make I32 ∷ make I64 ∷ make I128 ∷ ls
 
+-- All types without parts.
 abbrev all : List Leaf
 all = leaves.Char ∷ leaves.Str ∷ leaves.Bytes ∷ leaves.Float F32 ∷ leaves.Float F64
     ∷ with_integers (λ i. leaves.Integer i) (with_integers (λ i. leaves.Fixed Little i) (with_integers (λ i. leaves.Fixed Big i) []))
@@ -67,6 +68,7 @@ read_back (leaves.Fixed Big I32) after = refl
 read_back (leaves.Fixed Big I64) after = refl
 read_back (leaves.Fixed Big I128) after = refl
 
+-- If two texts that begin with names of types are equal, the types are equal, and so is what follows the names.
 pub same_leaf : (l m : Leaf) (x y : List ℕ) → leaf_name l ++ x ≡ leaf_name m ++ y → (l ≡ m) × (x ≡ y)
 same_leaf l m x y e =
     let same : l ≡ m = sym (read_back l x) ∙ ap (first all) e ∙ read_back m y in

@@ -25,6 +25,7 @@ kind_at b = cond (nat_eq b 79) 1 (cond (nat_eq b 91) 2 (cond (nat_eq b 40) 3 (co
 abbrev first_kind : List ℕ → ℕ
 first_kind text = kind_at (get_or text 0 0)
 
+-- The kind of a type, as its first byte tells it.
 abbrev kind_of : MessageType → ℕ
 kind_of (leaf l) = 0
 kind_of (option t) = 1
@@ -150,5 +151,6 @@ mutual
       let k = same_variants ts us x y f.1 g.1 h.1 in
       (λ i. then_type (h.0 i) (k.0 i), k.1)
 
+-- Types with equal texts are equal.
 pub one_text : (t u : MessageType) → CountsFit t → CountsFit u → shape_text t ≡ shape_text u → t ≡ u
 one_text t u f g e = (same_type t u [] [] f g (ap (λ l. l ++ []) e)).0

@@ -1,4 +1,4 @@
--- The parameters of CRC-64/XZ are sound.
+-- The parameters of CRC-64/XZ meet the conditions of the law on bursts.
 use Rattle.std.proofs.Common.{refl, arith}
 use Rattle.crc.specs.Crc.{IsSound}
 use Rattle.postcard_key.specs.Keys.{xz}

@@ -4,6 +4,7 @@ use Rattle.std.specs.Prelude.{codes}
 use Rattle.crc.specs.Digest.{Progress, Took}
 use Rattle.postcard_key.specs.Keys.{Continues}
 
+-- Taking xs and then ys is taking the two joined.
 pub then_text : {d e f : Progress} {xs ys : List ℕ} → Continues d xs e → Continues e ys f → Continues d (xs ++ ys) f
 then_text {d} {e} {f} {xs} {ys} h k = record { takes = λ a m t. subst (Took f a) (append_assoc m xs ys) (k.takes a (m ++ xs) (h.takes a m t)) }
 

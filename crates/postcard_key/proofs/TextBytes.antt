@@ -1,4 +1,4 @@
--- The texts of types are bytes.
+-- Each element of a type's text is a byte, as the law on bursts requires.
 use Rattle.std.proofs.Common.{ℕ, ◌<◌, List, [], ◌∷◌, ◌++◌, arith}
 use Rattle.std.specs.Fmt.{decimal}
 use Rattle.std.proofs.lemmas.Fmt.{IsAscii-decimal}

@@ -1,4 +1,4 @@
--- The greater of sizes that are equal, or of which one is none.
+-- The greater of two sizes, if they are equal, or if one of them is none.
 use Rattle.std.proofs.Common.{◌≡◌, ℕ, ◌+◌, ◌^◌, true, false, Bool, refl, ap, arith}
 use Rattle.std.specs.Prelude.{Option, Some, None, max, nat_lt, if◌then◌else◌}
 use Rattle.postcard_max.specs.Sizes.{sum_of, greater_of}

@@ -17,7 +17,7 @@ use Rattle.postcard_shape.specs.Shape.{never}
 pub record IsCasesLimit {V : Type 0} (limit : Option ℕ → SizeLimit) (reads : ℕ → Tree → Type 0) (refusal : V → Error → Type 0) (i : Option ℕ) : Type 0 where
   -- No canonical encoding of a variant whose content is read is longer than the greatest size.
   pub bounded : CasesBounded i (limit i).greatest reads
-  -- If `reached` holds, that of some variant whose content is read is as long.
+  -- If `reached` holds, the encoding of some variant whose content is read has this size.
   pub is_reached : (limit i).reached → CasesReached i (limit i).greatest reads
   -- If `willing` holds, no content refuses itself.
   pub never_refuses : (limit i).willing → Never refusal

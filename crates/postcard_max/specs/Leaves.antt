@@ -20,7 +20,7 @@ use Rattle.postcard_max.specs.Counts.{longer_counts, count_len, one_count}
 use Rattle.postcard_shape.specs.Shape.{never}
 use Rattle.postcard_max.specs.Willing.{never_any}
 
--- The limit `exactly n` holds of a node that takes at most n bytes, takes n bytes in some encoding, and whose values never refuse to be
+-- When the limit `exactly n` holds of a node. It takes at most n bytes, some encoding takes n bytes, and its values never refuse to be
 -- written.
 leaf_lawful : {V : Type 0} {n : ℕ} {reads : Tree → Type 0} → AreBounded (Some n) reads → IsReached (Some n) reads → IsLimit (exactly n) reads (λ (v : V). never)
 leaf_lawful h k = record { bounded = h; is_reached = λ _. k; never_refuses = λ _. never_any }
@@ -110,7 +110,7 @@ span_reached = (Group (Then (Num 64 18446744073709551615) (Then (Num 32 99999999
 pub span_lawful : {V : Type 0} → IsLimit (exactly 15) IsSpan (λ (v : V). never)
 span_lawful = leaf_lawful span_bounded span_reached
 
--- A text of at most cap bytes takes at most these bytes and those of the count cap.
+-- A string of at most cap bytes takes at most these bytes and those of the count cap.
 longest_text : (cap : ℕ) → (t : Tree) → IsShortText cap t → tree_len t ≤ cap + varint_len cap
 longest_text cap t f = rw f.1 (omega (arith, longer_counts (length f.0) cap f.2, length-append (digits (length f.0)) f.0))
 
@@ -141,6 +141,6 @@ short_reached cap fits =
       omega (arith, ap (λ n. length (digits n)) l, count_len cap, length-append (digits (length (letters cap))) (letters cap)),
     )
 
--- The limit of a text of at most cap bytes holds.
+-- The limit of a string of at most cap bytes holds.
 pub short_text_lawful : {V : Type 0} (cap : ℕ) → IsLimit (short_text_limit cap) (IsShortText cap) (λ (v : V). never)
 short_text_lawful cap = record { bounded = short_bounded cap; is_reached = short_reached cap; never_refuses = λ _. never_any }

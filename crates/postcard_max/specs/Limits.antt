@@ -1,5 +1,5 @@
--- When a size is the greatest of a set of trees: no encoding is longer, and one is as long. And when
--- the size limit that a type states holds.
+-- When a size is the greatest of a set of trees: no encoding is longer, and some encoding has this size. Also, when the size limit that a
+-- type states holds.
 use Rattle.std.specs.Prelude.{◌≡◌, ℕ, ◌^◌, ◌≤◌, nat_lt, if◌then◌else◌, length, true, false, Option, Some, None, IfSome}
 use Rattle.postcard_wire.specs.Tree.{Tree, Trees}
 use Rattle.postcard_wire.specs.Spelling.{canonical, canonical_all}
@@ -40,7 +40,7 @@ RowBounded = Bounded trees_len
 abbrev pub RowReached : Option ℕ → (Trees → Type 0) → Type 0
 RowReached = Reached trees_len
 
--- What is bounded or reached by n is so by `limited n`, which is none if n takes more than 64 bits.
+-- If n bounds a set or is reached in it, so does `limited n`, which is none if n takes more than 64 bits.
 pub limited_bounded : {X : Type 0} (measure : X → ℕ) (n : ℕ) (has : X → Type 0) → ((x : X) → has x → measure x ≤ n) → Bounded measure (limited n) has
 limited_bounded measure n has h = elim (nat_lt n (2 ^ 64)) as (λ v. Bounded measure (if v then Some n else None) has) [ true ↦ h | false ↦ tt ]
 
@@ -52,7 +52,7 @@ limited_reached measure n has h = elim (nat_lt n (2 ^ 64)) as (λ v. Reached mea
 pub record IsLimitOf {X V : Type 0} (measure : X → ℕ) (limit : SizeLimit) (reads : X → Type 0) (refusal : V → Error → Type 0) : Type 0 where
   -- No canonical encoding of what is read is longer than the greatest size.
   pub bounded : Bounded measure limit.greatest reads
-  -- If `reached` holds, that of something that is read is as long.
+  -- If `reached` holds, some encoding of what is read has this size.
   pub is_reached : limit.reached → Reached measure limit.greatest reads
   -- If `willing` holds, no value refuses itself.
   pub never_refuses : limit.willing → Never refusal

@@ -8,7 +8,7 @@ use Rattle.postcard_max.specs.Sizes.{sum_of, sum_all, times, greater_of, varint_
 pub record SizeLimit : Type 1 where
   -- The greatest size in bytes, or none if none is known that fits `usize`.
   pub greatest : Option ℕ
-  -- A condition under which some encoding is as long as the greatest size.
+  -- A condition under which some encoding has the greatest size.
   pub reached : Type 0
   -- A condition under which no value refuses itself when it is written.
   pub willing : Type 0
@@ -48,7 +48,7 @@ array_limit n l = record l { greatest = times n l.greatest }
 abbrev pub few_limit : ℕ → SizeLimit → SizeLimit
 few_limit n l = record l { greatest = sum_of (times n l.greatest) (Some (varint_len n)); reached = l.reached × (n < 2 ^ 64) }
 
--- The limit of a text of at most n bytes: these, and the size of the count n.
+-- The limit of a string of at most n bytes: these, and the size of the count n.
 abbrev pub short_text_limit : ℕ → SizeLimit
 short_text_limit n = record { greatest = sum_of (Some n) (Some (varint_len n)); reached = n < 2 ^ 64; willing = ⊤ }
 

@@ -11,8 +11,8 @@ use postcard_shape::{Repr, Shaped};
 /// Your own struct or enum implements [`MaxSizeRepr`], and gets this trait by that. Types that hold
 /// any number of elements, such as `Vec<T>`, `String` and `&str`, have no greatest size.
 pub trait MaxSize: Shaped {
-    /// The greatest size in bytes, and two conditions: one under which some encoding has this size,
-    /// and one under which no value refuses to be written.
+    /// The greatest size in bytes, and two conditions. Under the first some encoding has this size,
+    /// and under the second no value refuses to be written.
     ghost limit: { SizeLimit };
 
     /// Returns the greatest size of an encoding of this type's values, in bytes, or `None` if none

@@ -12,9 +12,11 @@ use Rattle.postcard_schema.specs.declared.schema.Schema.TheVariants as schemas
 seen : (ns : List (Named Schema)) → map (named (λ view. view)) (map (former-Schema-Struct-0-at-2.map Schema View view) ns) ≡ map (named view) ns
 seen ns = map-map (named (λ (v : View). v)) (former-Schema-Struct-0-at-2.map Schema View view) ns
 
+-- The view of a struct is made of the views of its fields.
 pub view_struct : (v : Vec (Named Schema) Global) → view (schemas.Struct v) ≡ struct_view (named_views v.items)
 view_struct v = search (rules, the_lemmas, seen)
 
+-- The view of an enum is made of the views of its variants.
 pub view_enum : (v : Vec (Named Schema) Global) → view (schemas.Enum v) ≡ enum_view (named_views v.items)
 view_enum v = search (rules, the_lemmas, seen)
 

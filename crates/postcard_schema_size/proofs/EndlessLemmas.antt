@@ -50,6 +50,7 @@ endless_enum v = search (rules, the_lemmas, named_paths)
 pub after_step : (here : List PlainStep) (s : PlainStep) (paths : Paths) → after here (after (s ∷ []) paths) ≡ after (here ++ s ∷ []) paths
 after_step here s paths = simp (append_assoc, map-map)
 
+-- The paths of a part and those of the parts after it, each after the steps to the whole.
 pub after_first : (here : List PlainStep) (s : PlainStep) (paths others : Paths)
     → after here (after (s ∷ []) paths ++ others) ≡ after (here ++ s ∷ []) paths ++ after here others
 after_first here s paths others = simp (append_assoc, map-append, map-map)
@@ -59,6 +60,7 @@ pub after_whole : (here : List PlainStep) (is : Bool) → after here (if is then
 after_whole here true = ap (λ path. path ∷ []) (append-nil here)
 after_whole here false = refl
 
+-- The path of the type itself comes before those in its parts.
 pub after_here : (here : List PlainStep) (old now paths : Paths) → now ≡ old ++ here ∷ []
     → old ++ after here ([] ∷ paths) ≡ now ++ after here paths
 after_here here old now paths added = rw added (simp (append_assoc, append-nil))

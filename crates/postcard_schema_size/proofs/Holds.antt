@@ -1,4 +1,4 @@
--- The limit of a type holds of its messages.
+-- The limit of a type holds of its messages: none is longer, and some message has this size if it is reached.
 use Rattle.std.proofs.Common.{◌≡◌, ◌≤◌, ◌<◌, ◌*◌, ◌^◌, ℕ, zero, suc, refl, ap, ◌∙◌, subst, arith}
 use Rattle.std.specs.Prelude.{Option, Some}
 use Rattle.postcard_wire.specs.Tree.{Tree, Trees, Group, NoTrees, Then, count}
@@ -28,9 +28,11 @@ use Rattle.postcard_schema_size.proofs.Sums.{small}
 abbrev Holds : SizeLimit → (Tree → Type 0) → Type 0
 Holds l has = IsLimit l has (λ (v : Unit {0}). never)
 
+-- The same of parts in a row.
 abbrev RowHolds : SizeLimit → (Trees → Type 0) → Type 0
 RowHolds l has = IsRowLimit l has (λ (v : Unit {0}). never)
 
+-- The same of variants, from an index on.
 abbrev CasesHold : (Option ℕ → SizeLimit) → (ℕ → Tree → Type 0) → Option ℕ → Type 0
 CasesHold l has = IsCasesLimit l has (λ (v : Unit {0}). never)
 

@@ -132,6 +132,7 @@ some_array n m reads h =
     let (ts, c, each, l) = alike n m reads t r e in
     limited_least tree_len (n * m) (IsArray n reads) (λ u f. rw (f.1, ← f.2) (each_least m reads h.none_shorter f.0 f.3)) (Group ts, (ts, refl, c, each), l)
 
+-- The least size of an array is that of its elements together.
 pub array_least : (n : ℕ) (g : Option ℕ) (reads : Tree → Type 0) → IsLeastSize g reads → IsLeastSize (repeated n g) (IsArray n reads)
 array_least zero g reads h = record { fits = omega arith; none_shorter = λ t f. omega arith; reached = (Group NoTrees, (NoTrees, refl, refl, tt), refl) }
 array_least (suc n) None reads h = λ t f. rw f.1 (never_small n reads h f.0 f.2 f.3)
@@ -143,6 +144,7 @@ bytes_least n few =
     let is : limited (n * 1) ≡ Some n = ap limited (omega arith) ∙ small n few in
     subst (λ g. IsLeastSize g (IsArray n IsByte)) is (some_array n 1 IsByte byte_least)
 
+-- The least size of a type without parts is `leaf_least`.
 pub leaf_is_least : (l : Leaf) → IsLeastSize (Some (leaf_least l)) (leaf_reads l)
 leaf_is_least leaves.Bool = boolean_least
 leaf_is_least (leaves.Integer i) = each_integer (λ n. IsLeastSize (Some 1)) byte_least num_least int_least i

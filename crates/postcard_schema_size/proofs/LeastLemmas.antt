@@ -14,9 +14,11 @@ use Rattle.postcard_schema_size.proofs.LeafLeast.{limited_least}
 
 -- ---- Parts in a row
 
+-- The empty row has the least size 0.
 pub end_least : IsLeastOfRow (Some 0) IsEnd
 end_least = record { fits = omega arith; none_shorter = λ ts e. omega arith; reached = (NoTrees, refl, refl) }
 
+-- The least size of a row is that of its first part and that of the others together.
 pub then_least : (a b : Option ℕ) (first : Tree → Type 0) (rest : Trees → Type 0) → IsLeastSize a first → IsLeastOfRow b rest
     → IsLeastOfRow (sum_of a b) (IsThen first rest)
 then_least None b first rest h k = λ ts (s, ss, e, f, g). rw e (omega (arith, h s f, length-append (canonical s) (canonical_all ss)))
@@ -28,6 +30,7 @@ then_least (Some a) (Some b) first rest h k =
     (λ ts (s, ss, e, f, g). rw e (omega (arith, h.none_shorter s f, k.none_shorter ss g, length-append (canonical s) (canonical_all ss))))
     (Then u us, (u, us, refl, p, q), omega (arith, d, l, length-append (canonical u) (canonical_all us)))
 
+-- The least size of a group is that of its parts.
 pub group_least : (g : Option ℕ) (parts : Trees → Type 0) → IsLeastOfRow g parts → IsLeastSize g (IsGroup parts)
 group_least None parts h = λ t (ts, e, f). rw e (h ts f)
 group_least (Some m) parts h = record {
@@ -42,6 +45,7 @@ group_least (Some m) parts h = record {
 variant_len : (i : ℕ) (t : Tree) → tree_len (Variant i t) ≡ varint_len i + tree_len t
 variant_len i t = omega (arith, count_len i, length-append (digits i) (canonical t))
 
+-- The least size of a variant is that of its index and its content together.
 pub variant_least : (i : ℕ) (g : Option ℕ) (content : Tree → Type 0) → i < 2 ^ 32 → IsLeastSize g content
     → IsLeastSize (sum_of (Some (varint_len i)) g) (IsVariantAt i content)
 variant_least i None content few h = λ t (s, e, low, r). rw e (omega (arith, h s r, variant_len i s))

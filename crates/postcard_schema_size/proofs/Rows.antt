@@ -52,6 +52,7 @@ least_small : (g : Option ℕ) (has : Trees → Type 0) → IsLeastOfRow g has �
 least_small None has h = tt
 least_small (Some n) has h = h.fits
 
+-- Before the first part the sizes are 0.
 pub total_begin : (sizes : Sizes) (ts : MessageTypes) → sizes.least ≡ Some 0 → sizes.greatest ≡ Some 0 → Total sizes ts ts
 total_begin sizes ts l g = record {
   small_least = rw l (omega arith);
@@ -60,6 +61,7 @@ total_begin sizes ts l g = record {
   greatest = rw (g, zero_first (greatest_all ts) (row_small ts));
 }
 
+-- One part more adds its sizes.
 pub total_step : (before part after : Sizes) (t : MessageType) (left rest all : MessageTypes) → left ≡ then_type t rest
     → IsLeastSize part.least (reads t) → part.greatest ≡ (limit t).greatest
     → after.least ≡ sum_of before.least part.least → after.greatest ≡ sum_of before.greatest part.greatest → Total before left all → Total after rest all
@@ -71,6 +73,7 @@ total_step before part after t left rest all here least is l g total = record {
   greatest = rw (g, sums before.greatest part.greatest (greatest_all rest), is) (rw here at total.greatest);
 }
 
+-- After the last part the sizes are those of all.
 pub total_end : (sizes : Sizes) (left all : MessageTypes) → left ≡ no_types → Total sizes left all
     → IsLeastSize sizes.least (IsGroup (reads_all all)) × (sizes.greatest ≡ greatest_all all)
 total_end sizes left all none total = (
@@ -111,6 +114,7 @@ module _ (ns : List (Named Schema)) (k : ℕ) (n : Named Schema) (low : k < leng
 within : (ns : List (Named Schema)) (i k : ℕ) (s : Tree) → length ns ≤ k → reads_at (content_types ns) i s → i < k
 within ns i k s high r = elim (cases_lt i k) [ inl low ↦ low | inr past ↦ absurd (no_content_at ns i s (λ low. omega (arith, high, past, low)) r) ]
 
+-- Once all variants are counted, the least size is that of the enum.
 pub all_below : (ns : List (Named Schema)) (k : ℕ) (a : Option ℕ) → length ns ≤ k → IsLeastSize a (Below k ns)
     → IsLeastSize a (IsVariant (reads_at (content_types ns)))
 all_below ns k a high = same_least a (Below k ns) (IsVariant (reads_at (content_types ns)))
@@ -121,6 +125,7 @@ pub record Best (sizes : Sizes) (k : ℕ) (ns : List (Named Schema)) : Type 0 wh
   pub least : IsLeastSize sizes.least (Below k ns)
   pub greatest : greater_of sizes.greatest (greatest_from (content_types (drop k ns)) k) ≡ greatest_from (content_types ns) 0
 
+-- One variant more keeps the lesser of the least sizes and the greater of the greatest.
 pub best_step : (before variant after : Sizes) (ns : List (Named Schema)) (k : ℕ) (n : Named Schema) → k < length ns → k + 1 < 2 ^ 64 → n ≡ get_or ns k n
     → IsLeastSize variant.least (IsVariantAt k (reads (type_of n.content))) → variant.greatest ≡ sum_of (Some (varint_len k)) (limit (type_of n.content)).greatest
     → after.least ≡ lesser_of before.least variant.least → after.greatest ≡ greater_of before.greatest variant.greatest → Best before k ns → Best after (k + 1) ns

@@ -16,6 +16,7 @@ large n h = ap (λ b. if b then Some n else None) (le-ltb n (2 ^ 64) h)
 abbrev pub IsSmall : Option ℕ → Type 0
 IsSmall size = IfSome size (λ n. n < 2 ^ 64)
 
+-- A sum of sizes fits 64 bits, or is none.
 pub sum_small : (a b : Option ℕ) → IsSmall (sum_of a b)
 sum_small None b = tt
 sum_small (Some a) None = tt

@@ -8,10 +8,12 @@ use Rattle.postcard_schema_text.specs.declared.angled.Holder.{Holder}
 use Rattle.postcard_schema_text.specs.declared.angled.Holder.TheVariants as holders
 use Rattle.postcard_schema_text.specs.Angled.{MayHold, IsHolderOf}
 
+-- A list whose element type has bytes is the schema of `Vec<T>`.
 pub list_made : (h : Holder) (x : Schema) (b : Box Schema Global) → h ≡ holders.List → has_bytes (type_of x) ≡ true → b.value ≡ x
     → MayHold h (type_of x) × IsHolderOf h x (Seq b)
 list_made h x b is full held = rw is (full, (b, refl, held))
 
+-- An option is the schema of `Option<T>`.
 pub option_made : (h : Holder) (x : Schema) (b : Box Schema Global) → h ≡ holders.Option → b.value ≡ x → MayHold h (type_of x) × IsHolderOf h x (Option b)
 option_made h x b is held = rw is (tt, (b, refl, held))
 

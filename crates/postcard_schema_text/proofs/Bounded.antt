@@ -20,6 +20,7 @@ pub record Bounded (n : ℕ) (t : MessageType) : Type 0 where
   pub full : ElementsHaveBytes t
   pub low : depth t ≤ n
 
+-- The same of each type of a list.
 pub record AllBounded (n : ℕ) (ts : MessageTypes) : Type 0 where
   pub full : AllElementsHaveBytes ts
   pub low : greatest_depth ts ≤ n

@@ -29,6 +29,7 @@ word_starts (x ∷ w) a r filled (front, (pass, led), whole) = (x, w ++ r, word_
 pub one_name : (w : List ℕ) (k l : TypeName) → IsTypeName w k → IsTypeName w l → k ≡ l
 one_name w k l h g = search rules
 
+-- The name of a type isn't empty.
 pub name_filled : (w : List ℕ) (k : TypeName) → IsTypeName w k → 0 < length w
 name_filled w k h = search rules
 
@@ -51,6 +52,7 @@ worded_head T s a r (front, (k, name, named, h), whole) =
 abbrev pub starts_plain : ℕ → Bool
 starts_plain x = is_of_word x || (nat_eq x 91 || (nat_eq x 40 || nat_eq x 123))
 
+-- A type that is no enum and has no `&` before it begins with one of these bytes.
 pub plain_head : (T : Schema → List ℕ → Type 0) (s : Schema) (a r : List ℕ) → TakesPhrase (IsPlain T s) a r → Starts starts_plain a
 plain_head T s a r (front, inl h, whole) = let head = worded_head T s a r (front, h, whole) in (head.0, head.1, head.2, or_left (is_of_word head.0) _ head.3)
 plain_head T s a r (front, inr (inl h), whole) = let k = takes_split _ _ a r (front, h, whole) in (91, k.0, sign_unblank 91 a k.0 refl k.1, refl)
@@ -61,17 +63,20 @@ plain_head T s a r (front, inr (inr (inr h)), whole) = let k = takes_split _ _ a
 abbrev pub starts_referred : ℕ → Bool
 starts_referred x = starts_plain x || nat_eq x 38
 
+-- A type that is no enum begins with one of these bytes.
 pub referred_head : (T : Schema → List ℕ → Type 0) (s : Schema) (a r : List ℕ) → TakesPhrase (IsReferred T s) a r → Starts starts_referred a
 referred_head T s a r (front, (zero, h), whole) = let head = plain_head T s a r (front, h, whole) in (head.0, head.1, head.2, or_left (starts_plain head.0) _ head.3)
 referred_head T s a r (front, (suc n, h), whole) =
     let k = takes_split (IsSign 38) (IsReferenceRest (IsBehind n T s)) a r (front, h, whole) in (38, k.0, sign_unblank 38 a k.0 refl k.1, refl)
 
+-- A variant begins with a capital letter.
 pub variant_head : (T : Schema → List ℕ → Type 0) (n : Named Schema) (a r : List ℕ) → TakesPhrase (IsVariantText T n) a r → Starts is_ascii_uppercase a
 variant_head T n a r (front, (named, h), whole) =
     let k = takes_split _ _ a r (front, h, whole) in
     let head = word_head (string_bytes n.name) a k.0 named.0 k.1 in
     (slice_index (string_bytes n.name) 0, head.0, head.1, named.1)
 
+-- A field begins with a byte of a word.
 pub field_head : (T : Schema → List ℕ → Type 0) (n : Named Schema) (a r : List ℕ) → TakesPhrase (IsField T n) a r → Starts is_of_word a
 field_head T n a r (front, (named, h), whole) =
     let k = takes_split _ _ a r (front, h, whole) in
@@ -82,6 +87,7 @@ abbrev pub After : {A : Type 0} → (A → List ℕ → Type 0) → ℕ → List
 After P sign [] m r = m ≡ r
 After P sign (u ∷ us) m r = (k : List ℕ) × TakesPhrase (IsSign sign) m k × TakesPhrase (Separated P sign (u ∷ us)) k r
 
+-- A row is its first item and what follows it.
 pub separated_first : {A : Type 0} (P : A → List ℕ → Type 0) (sign : ℕ) (ss : List A) (a r : List ℕ) → TakesPhrase (Separated P sign ss) a r
     → (x : A) × (more : List A) × (m : List ℕ) × (ss ≡ x ∷ more) × TakesPhrase (P x) a m × After P sign more m r
 separated_first P sign [] a r (front, none, whole) = absurd none
@@ -176,6 +182,7 @@ options_split P (suc n) s a r (front, (b, is, h), whole) =
 abbrev pub starts_type : ℕ → Bool
 starts_type x = starts_referred x || starts_enum x
 
+-- A type begins with one of these bytes.
 pub type_head : (d : ℕ) (s : Schema) (a r : List ℕ) → TakesPhrase (IsType d s) a r → Starts starts_type a
 unfolding IsType
 type_head zero s a r (front, none, whole) = absurd none
@@ -200,5 +207,6 @@ name_if text trimmed first after r trim whole is =
     let here = sym (trim_is text trimmed trim) ∙ whole in
     (λ e. (first, after, here, sym is ∙ e), λ (x, t, e, pass). is ∙ ap follows_name (same_first (sym here ∙ e)) ∙ pass)
 
+-- If only blanks are left, no `|`, `(` or `{` is next.
 pub name_unless : (text trimmed : List ℕ) → IsTrimAsciiStart text trimmed → trimmed ≡ [] → Decides false (Starts follows_name text)
 name_unless text trimmed trim none = (λ e. absurd (true≢false (sym e)), λ (x, t, e, pass). absurd (not_empty (sym none ∙ trim_is text trimmed trim ∙ e)))

@@ -1,4 +1,5 @@
--- What is left of each phrase of the grammar once its first parts are taken from the text.
+-- What is left of each phrase of the grammar once its first parts are taken from the text. The records `..Front`, `..After` and `..Left` of
+-- the files `LeftOf..` describe the text at a point of reading. A lemma leads from one point to the next.
 use Rattle.std.proofs.Common.{arith, ◌≡◌, ℕ, nat_eq, Bool, true, false, List, [], ◌∷◌, ◌++◌, string_bytes, refl, sym, ap, ◌∙◌, subst, true≢false, eq-eqb, ◌⊎◌, inl, inr}
 use Rattle.std.proofs.lemmas.Bool.Decides.{nat_tests}
 use Rattle.std.specs.Char.{is_ascii_whitespace}
@@ -33,6 +34,7 @@ pub other_sign : (x y : ℕ) (a r q : List ℕ) → is_ascii_whitespace x ≡ fa
     → TakesPhrase (IsSign x) a r → TakesPhrase (IsSign y) a q → ⊥
 other_sign x y a r q b c differ h k = true≢false (sym (eq-eqb x y (one_sign x y a r q b c h k).0) ∙ differ)
 
+-- What may follow a type is no blank.
 pub follows_black : (b : ℕ) → follows_type b ≡ true → is_ascii_whitespace b ≡ false
 follows_black b h = grind (arith, nat_tests, h)
 
@@ -50,6 +52,7 @@ pub goes_variant : (a : List ℕ) → GoesOnBy follows_type a → GoesOnBy follo
 goes_variant a (inl blank) = inl blank
 goes_variant a (inr (sign, after, pass, h)) = inr (sign, after, wider sign pass, h)
 
+-- What follows a type or a variant doesn't go on with a word.
 pub goes_ends_word : (a : List ℕ) → GoesOnBy follows_variant a → EndsWord a
 goes_ends_word a h = goes_on_ends_word follows_variant a follows_ends h
 
@@ -58,6 +61,7 @@ pub not_next : (sign : ℕ) (a r : List ℕ) → is_ascii_whitespace sign ≡ fa
     → TakesPhrase (IsSign sign) a r → ⊥
 not_next sign a r black none goes h = goes_on_not_by follows_variant sign a r variant_black black none goes (sign_unblank sign a r black h)
 
+-- What follows a type doesn't begin with another sign.
 pub not_next_type : (sign : ℕ) (a r : List ℕ) → is_ascii_whitespace sign ≡ false → follows_type sign ≡ false → GoesOnBy follows_type a → TakesPhrase (IsSign sign) a r → ⊥
 not_next_type sign a r black none goes h = goes_on_not_by follows_type sign a r follows_black black none goes (sign_unblank sign a r black h)
 
@@ -88,6 +92,7 @@ Alike R [] (y ∷ ys) = ⊥
 Alike R (x ∷ xs) [] = ⊥
 Alike R (x ∷ xs) (y ∷ ys) = R x y × Alike R xs ys
 
+-- Rows that are alike stay alike with one more item on each side.
 pub alike_more : {A : Type 0} (R : A → A → Type 0) (xs ys : List A) (x y : A) → Alike R xs ys → R x y → Alike R (xs ++ x ∷ []) (ys ++ y ∷ [])
 alike_more R [] [] x y h k = (k, tt)
 alike_more R [] (v ∷ ys) x y h k = absurd h
@@ -101,6 +106,7 @@ alike_types [] (v ∷ ys) h = absurd h
 alike_types (u ∷ xs) [] h = absurd h
 alike_types (u ∷ xs) (v ∷ ys) h = ap (λ t. then_type t (types_of xs)) h.0 ∙ ap (then_type (type_of v)) (alike_types xs ys h.1)
 
+-- Fields or variants with contents of the same types have the same types in a row.
 pub alike_contents : (xs ys : List (Named Schema)) → Alike SameNamed xs ys → types_of (contents xs) ≡ types_of (contents ys)
 alike_contents [] [] h = refl
 alike_contents [] (v ∷ ys) h = absurd h
@@ -152,12 +158,14 @@ pub record RowFront {A : Type 0} (P : A → List ℕ → Type 0) (sign : ℕ) (R
   pub taken : TakesPhrase (P first) a rest
   pub left : After P sign more rest r
 
+-- Where an item is next, the text begins with it.
 pub row_front : {A : Type 0} (P : A → List ℕ → Type 0) (sign : ℕ) (R : A → A → Type 0) (done items : List A) (a r : List ℕ)
     → RowLeft P sign R done items a r → RowFront P sign R done items a r
 row_front P sign R done items a r h =
     let k = separated_first P sign h.more a r h.left in
     record { before = h.before; first = k.0; more = k.1; rest = k.2; whole = h.whole ∙ ap (λ t. h.before ++ t) k.3; alike = h.alike; taken = k.4; left = k.5 }
 
+-- Once that item is taken, the row goes on after it.
 pub row_after : {A : Type 0} (P : A → List ℕ → Type 0) (sign : ℕ) (R : A → A → Type 0) (done items : List A) (y : A) (a m r : List ℕ)
     → (h : RowFront P sign R done items a r) → R h.first y → h.rest ≡ m → RowAfter P sign R (done ++ y ∷ []) items m r
 row_after P sign R done items y a m r h same e = record {
@@ -184,6 +192,7 @@ row_goes {A} P sign R done items a m r black h taken = by h.more h.whole h.left
         let e = after_sign sign a k m black between taken in
         inr record { before = h.before; more = u ∷ us; whole = whole; alike = h.alike; left = rw (← e) row }
 
+-- Where the row ends, the items taken are those of the row.
 pub row_ends : {A : Type 0} (P : A → List ℕ → Type 0) (sign : ℕ) (R : A → A → Type 0) (done items : List A) (a r : List ℕ)
     → RowAfter P sign R done items a r → ((m : List ℕ) → TakesPhrase (IsSign sign) a m → ⊥) → RowEnds R done items a r
 row_ends {A} P sign R done items a r h none = by h.more h.whole h.left

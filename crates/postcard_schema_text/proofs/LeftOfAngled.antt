@@ -33,16 +33,19 @@ holder_type holders.List t = seq t
 holder_type holders.Option t = option t
 holder_type (holders.Fixed order) t = fixed_type order t
 
+-- The type of a map or of a `Result`, from the two types in its `<` and `>`.
 abbrev pub pair_type : Pair → MessageType → MessageType → MessageType
 pair_type pairs.Map t u = seq (entry_of t u)
 pair_type pairs.Result t u = choice (then_type t (then_type u no_types))
 
+-- The schema of a type of one type has the type that `holder_type` names.
 pub type_of_holder : (h : Holder) (x s : Schema) → IsHolderOf h x s → type_of s ≡ holder_type h (type_of x)
 type_of_holder holders.Itself x s is = ap type_of is
 type_of_holder holders.List x s (b, is, value) = ap type_of is ∙ type_of_seq b ∙ ap (λ z. seq (type_of z)) value
 type_of_holder holders.Option x s (b, is, value) = ap type_of is ∙ type_of_option b ∙ ap (λ z. option (type_of z)) value
 type_of_holder (holders.Fixed order) x s (integer, wide, made) = ap type_of made ∙ type_of_leaf (leaves.Fixed order integer) ∙ ap (fixed_type order) (sym wide.0)
 
+-- The schema of a type of two types has the type that `pair_type` names.
 pub type_of_pair : (p : Pair) (x y s : Schema) → IsPairOf p x y s → type_of s ≡ pair_type p (type_of x) (type_of y)
 type_of_pair pairs.Map x y s (b, c, is, key, value) =
     ap type_of is ∙ type_of_map b c ∙ ap (λ z. seq (entry_of (type_of z) (type_of c.value))) key ∙ ap (λ z. seq (entry_of (type_of x) (type_of z))) value
@@ -57,6 +60,7 @@ pub record OneFront (P : Types) (h : Holder) (s : Schema) (a r : List ℕ) : Typ
   pub is : type_of s ≡ holder_type h (type_of inner)
   pub taken : TakesPhrase (P inner) a r
 
+-- After the `<` of a type of one type, that type is next.
 pub one_front : (P : Types) (h : Holder) (s : Schema) (a r : List ℕ) → TakesPhrase (IsOfOne h P s) a r → OneFront P h s a r
 one_front P h s a r (front, (x, may, is, k), whole) = record { inner = x; may = may; is = type_of_holder h x s is; taken = (front, k, whole) }
 
@@ -73,6 +77,7 @@ one_read P h s x a c r one k =
     let only = one f.inner r f.taken tt in
     record { may = subst (MayHold h) only.0 f.may; is = f.is ∙ ap (holder_type h) only.0; same = only.1 }
 
+-- Taking the one type takes what is in the `<` and `>`.
 pub one_takes : (P : Types) (h : Holder) (x s : Schema) (a r : List ℕ) → TakesPhrase (P x) a r → MayHold h (type_of x) × IsHolderOf h x s
     → TakesPhrase (IsOfOne h P s) a r
 one_takes P h x s a r inner (may, is) = takes_as (P x) (IsOfOne h P s) a r (λ t k. (x, may, is, k)) inner
@@ -88,6 +93,7 @@ pub record SecondLeft (Q : Types) (p : Pair) (s : Schema) (t : MessageType) (c r
   pub is : type_of s ≡ pair_type p t (type_of second)
   pub taken : TakesPhrase (Q second) c r
 
+-- After the first type, the second is left.
 pub second_left : (P Q : Types) (p : Pair) (s x : Schema) (a c r : List ℕ) → IsOnlyFront SameType Anything P x a c → TakesPhrase (IsOfTwo p P Q s) a r
     → SecondLeft Q p s (type_of x) c r
 second_left P Q p s x a c r one (front, (y, z, may, is, h), whole) =
@@ -112,6 +118,7 @@ two_read Q p s y t c e r one h =
     let only = one h.second r h.taken tt in
     record { may = subst (MayPair p t) only.0 h.may; is = h.is ∙ ap (pair_type p t) only.0; same = only.1 }
 
+-- Taking the two types takes what is in the `<` and `>`.
 pub two_take : (P Q : Types) (p : Pair) (x y s : Schema) (a b r : List ℕ) → TakesPhrase (P x) a b → TakesPhrase (Q y) b r
     → MayPair p (type_of x) (type_of y) × IsPairOf p x y s → TakesPhrase (IsOfTwo p P Q s) a r
 two_take P Q p x y s a b r first second (may, is) =
@@ -121,12 +128,15 @@ two_take P Q p x y s a b r first second (may, is) =
 pub map_begins : (T : Types) (s : Schema) (a r : List ℕ) → TakesPhrase (IsMapRest T s) a r → HasFront (GoesOnBy follows_type) T a
 map_begins T s a r h = let k = two_begin (IsEndedBy T 61) (IsMapValue T) pairs.Map s a r h in ended_begins T 61 k.0 a k.1 refl k.2
 
+-- After the `=` of a map, a `>` is next.
 pub map_arrow : (T : Types) (s : Schema) (t : MessageType) (c r : List ℕ) → SecondLeft (IsMapValue T) pairs.Map s t c r → (d : List ℕ) × TakesPhrase (IsSign 62) c d
 map_arrow T s t c r h = let k = takes_split (IsSign 62) (IsEndedBy T 125 h.second) c r h.taken in (k.0, k.1)
 
+-- After the `=>` of a map, its value type is left.
 pub map_value : (T : Types) (s : Schema) (t : MessageType) (c d r : List ℕ) → TakesPhrase (IsSign 62) c d
     → SecondLeft (IsMapValue T) pairs.Map s t c r → SecondLeft (IsEndedBy T 125) pairs.Map s t d r
 map_value T s t c d r arrow h = record { second = h.second; may = h.may; is = h.is; taken = behind_sign 62 (IsEndedBy T 125 h.second) c d r refl arrow h.taken }
 
+-- Taking a `>` and a type that ends with `}` takes the value of a map.
 pub value_takes : (T : Types) (y : Schema) (c d r : List ℕ) → TakesPhrase (IsSign 62) c d → TakesPhrase (IsEndedBy T 125 y) d r → TakesPhrase (IsMapValue T y) c r
 value_takes T y c d r arrow h = takes_two (IsSign 62) (IsEndedBy T 125 y) c d r arrow h

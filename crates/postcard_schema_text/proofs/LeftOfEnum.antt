@@ -72,6 +72,7 @@ pub record VariantFront (T : Types) (x : Named Schema) (v b r : List ℕ) : Type
   pub named : IsVariantName v
   pub left : TakesPhrase (IsContent T x.content) b r
 
+-- The word that was taken is the name of the variant that is next.
 pub variant_front : (T : Types) (x : Named Schema) (a v b r : List ℕ) → WordTaken a v b → TakesPhrase (IsVariantText T x) a r
     → GoesOnBy follows_variant r → VariantFront T x v b r
 variant_front T x a v b r taken (front, (named, h), whole) goes =
@@ -95,6 +96,7 @@ pub record EnumAfter (T : Types) (done : List (Named Schema)) (leads : Bool) (s 
   pub many : leads ≡ false → 1 < length variants.items
   pub row : RowAfter (IsVariantText T) 124 SameNamed done variants.items a r
 
+-- After the leading `|` of an enum, or at its start if there is none, the first variant is next.
 pub enum_begins : (T : Types) (leads : Bool) (s : Schema) (a b r : List ℕ) → TakesPhrase (IsEnumText T s) a r
     → (leads ≡ true → TakesPhrase (IsSign 124) a b) → (leads ≡ false → b ≡ a)
     → (leads ≡ false → (e : List ℕ) → TakesPhrase (IsSign 124) a e → ⊥) → EnumLeft T [] leads s b r
@@ -119,6 +121,7 @@ enum_begins T leads s a b r (front, (v, is, differ, h), whole) given same none =
 next_variant_goes : (T : Types) (done : List (Named Schema)) (leads : Bool) (s : Schema) (a r : List ℕ) (h : EnumLeft T done leads s a r) (f : RowFront (IsVariantText T) 124 SameNamed done h.variants.items a r) → GoesOnBy follows_type r → GoesOnBy follows_variant f.rest
 next_variant_goes T done leads s a r h f goes = row_follows (IsVariantText T) 124 follows_variant f.more f.rest r refl f.left (goes_variant r goes)
 
+-- Where a variant is next, the text begins with one.
 pub variant_begins : (T : Types) (done : List (Named Schema)) (leads : Bool) (s : Schema) (a r : List ℕ) → EnumLeft T done leads s a r
     → GoesOnBy follows_type r → HasFront (GoesOnBy follows_variant) (IsNew done (IsVariantText T)) a
 variant_begins T done leads s a r h goes =
@@ -160,6 +163,7 @@ pub record EnumEnd (done : List (Named Schema)) (leads : Bool) (s : Schema) (a r
   pub same : r ≡ a
   pub many : leads ≡ false → 1 < length done
 
+-- If no `|` follows a variant, the enum ends.
 pub enum_end : (T : Types) (done : List (Named Schema)) (leads : Bool) (s : Schema) (a r : List ℕ) → EnumAfter T done leads s a r
     → ((c : List ℕ) → TakesPhrase (IsSign 124) a c → ⊥) → EnumEnd done leads s a r
 enum_end T done leads s a r h none =

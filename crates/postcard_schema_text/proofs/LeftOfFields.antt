@@ -31,6 +31,7 @@ pub record FieldFront (T : Types) (x : Named Schema) (v b r : List ℕ) : Type 0
   pub takes_colon : TakesPhrase (IsSign 58) b colon
   pub takes_content : TakesPhrase (T x.content) colon r
 
+-- The word that was taken is the name of the field that is next.
 pub field_front : (T : Types) (x : Named Schema) (a v b r : List ℕ) → WordTaken a v b → TakesPhrase (IsField T x) a r → FieldFront T x v b r
 field_front T x a v b r taken (front, (named, h), whole) =
     let name = takes_split (IsWord (string_bytes x.name)) (Then (IsSign 58) (T x.content)) a r (front, h, whole) in
@@ -48,6 +49,7 @@ field_front T x a v b r taken (front, (named, h), whole) =
 pub field_content : (T : Types) (x : Named Schema) (v b c r : List ℕ) → FieldFront T x v b r → TakesPhrase (IsSign 58) b c → TakesPhrase (T x.content) c r
 field_content T x v b c r h colon = subst (λ t. TakesPhrase (T x.content) t r) (after_sign 58 b h.colon c refl h.takes_colon colon) h.takes_content
 
+-- The end of a struct: a `,` or none, and then `}`.
 abbrev pub FieldsEnd : List ℕ → Type 0
 FieldsEnd text = Then (IsMaybe 44) (IsSign 125) text
 
@@ -69,6 +71,7 @@ pub record FieldsAfter (T : Types) (done : List (Named Schema)) (s : Schema) (a 
   pub row : RowAfter (IsField T) 44 SameNamed done fields.items a end
   pub takes_end : TakesPhrase FieldsEnd end r
 
+-- After the `{` of a struct, its first field is next.
 pub fields_begin : (T : Types) (s : Schema) (a r : List ℕ) → TakesPhrase (IsFieldsRest T s) a r → FieldsLeft T [] s a r
 fields_begin T s a r (front, (v, is, differ, h), whole) =
     let k = takes_split (Separated (IsField T) 44 v.items) FieldsEnd a r (front, h, whole) in
@@ -162,6 +165,7 @@ fields_not_close T done s a e r h close =
     let f = row_front (IsField T) 44 SameNamed done h.fields.items a h.end h.row in
     starts_not_by is_of_word 125 a e refl refl (field_head T f.first a f.rest f.taken) close
 
+-- Where a field is next, the text doesn't end.
 pub fields_not_ended : (T : Types) (done : List (Named Schema)) (s : Schema) (r : List ℕ) → FieldsLeft T done s [] r → ⊥
 fields_not_ended T done s r h =
     let f = row_front (IsField T) 44 SameNamed done h.fields.items [] h.end h.row in
@@ -221,6 +225,7 @@ named_if text word after new r taken whole filled given missing = (λ e. (word, 
     by false none (w, a, q, more, h, colon) =
         absurd (none refl q (subst (λ t. TakesPhrase (IsSign 58) t q) (named_word w word text after a q 58 more refl taken h colon).1 colon))
 
+-- Without a word and a `:`, no field is next.
 pub named_unless : (text word after : List ℕ) (r : Bool) → WordTaken text word after → length word ≡ 0 → r ≡ false → Decides r (IsNamed text)
 named_unless text word after r taken none is =
     (λ e. absurd (true≢false (sym e ∙ is)), λ (w, a, q, filled, h, colon). absurd (omega (arith, none, filled, ap length (named_word w word text after a q 58 filled refl taken h colon).0)))

@@ -17,6 +17,7 @@ pub front_by : (T : Types) (x : Schema) (sign : ℕ) (a m r : List ℕ) → foll
     → HasFront (GoesOnBy follows_type) T a
 front_by T x sign a m r pass h k = (x, m, h, inr (sign, r, pass, k))
 
+-- A type with a sign after it begins with the type.
 pub ended_begins : (T : Types) (sign : ℕ) (s : Schema) (a r : List ℕ) → follows_type sign ≡ true → TakesPhrase (IsEndedBy T sign s) a r
     → HasFront (GoesOnBy follows_type) T a
 ended_begins T sign s a r pass h = let k = takes_split (T s) (IsSign sign) a r h in front_by T s sign a k.0 r pass k.1 k.2
@@ -30,6 +31,7 @@ ended_left T sign s x a c r pass one h =
     let only = one s k.0 k.1 (inr (sign, r, pass, k.2)) in
     (only.0, subst (λ t. TakesPhrase (IsSign sign) t r) only.1 k.2)
 
+-- After a `[`, the element type is next.
 pub list_begins : (T : Types) (s : Schema) (a r : List ℕ) → TakesPhrase (IsListRest T s) a r → HasFront (GoesOnBy follows_type) T a
 list_begins T s a r (front, inl (b, is, full, h), whole) = let k = takes_split (T b.value) (IsSign 93) a r (front, h, whole) in front_by T b.value 93 a k.0 r refl k.1 k.2
 list_begins T s a r (front, inr (b, n, is, full, h), whole) =
@@ -43,6 +45,7 @@ pub record ListLeft (s : Schema) (e : MessageType) (c r : List ℕ) : Type 0 whe
   pub left : ((type_of s ≡ seq e) × TakesPhrase (IsSign 93) c r)
       ⊎ ((n : ℕ) × (m : List ℕ) × (k : List ℕ) × (type_of s ≡ array n e) × TakesPhrase (IsSign 59) c m × TakesPhrase (IsCount n) m k × TakesPhrase (IsSign 93) k r)
 
+-- Once the element type is taken, the rest of the list or the array is left.
 pub list_left : (T : Types) (s e : Schema) (a c r : List ℕ) → IsOnlyFront SameType (GoesOnBy follows_type) T e a c → TakesPhrase (IsListRest T s) a r
     → ListLeft s (type_of e) c r
 list_left T s e a c r one (front, inl (b, is, full, h), whole) =

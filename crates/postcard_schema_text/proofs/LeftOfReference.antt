@@ -18,6 +18,7 @@ Types = Schema → List ℕ → Type 0
 pub plain_is_referred : (T : Types) (s : Schema) (a r : List ℕ) → TakesPhrase (IsPlain T s) a r → TakesPhrase (IsReferred T s) a r
 plain_is_referred T s a r h = takes_as (IsPlain T s) (IsReferred T s) a r (λ t k. (zero, k)) h
 
+-- Without a `&`, a type that may have one is a plain type.
 pub referred_is_plain : (T : Types) (s : Schema) (a r : List ℕ) → ((b : List ℕ) → TakesPhrase (IsSign 38) a b → ⊥) → TakesPhrase (IsReferred T s) a r
     → TakesPhrase (IsPlain T s) a r
 referred_is_plain T s a r none (front, (zero, h), whole) = (front, h, whole)
@@ -44,6 +45,7 @@ reference_left T s a b r sign (front, (suc n, h), whole) =
     takes_as (IsReferenceRest (IsBehind n T s)) (IsReferenceRest (IsReferred T s)) b r (λ t g. rest_as (IsBehind n T s) (IsReferred T s) (λ u q. (n, q)) t g)
     (behind_sign 38 (IsReferenceRest (IsBehind n T s)) a b r refl sign (front, h, whole))
 
+-- Taking a `&` and what follows it takes a type with a `&`.
 pub reference_takes : (T : Types) (s : Schema) (a b r : List ℕ) → TakesPhrase (IsSign 38) a b → TakesPhrase (IsReferenceRest (IsReferred T s)) b r
     → TakesPhrase (IsReferred T s) a r
 reference_takes T s a b r sign (front, h, whole) =

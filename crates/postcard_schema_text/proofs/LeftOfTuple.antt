@@ -61,6 +61,7 @@ tuple_first d s a r h none = elim (tuple_front d s a r h) [
   | inr f ↦ f
 ]
 
+-- A tuple that isn't empty begins with a type.
 pub tuple_begins : (d : ℕ) (s : Schema) (a r : List ℕ) → TupleFront d s a r → HasFront (GoesOnBy follows_type) (IsType d) a
 tuple_begins d s a r f = (f.first, f.rest, f.taken, f.goes)
 
@@ -181,6 +182,7 @@ next_goes : (d : ℕ) (done : List Schema) (s : Schema) (a r : List ℕ) → (h 
     → (f : RowFront (IsType d) 44 SameType done h.parts.items a h.end) → GoesOnBy follows_type f.rest
 next_goes d done s a r h f = row_follows (IsType d) 44 follows_type f.more f.rest h.end refl f.left (tuple_end_goes (length h.parts.items) h.end r h.takes_end)
 
+-- Where a type of a tuple is next, the text begins with one.
 pub tuple_next_begins : (d : ℕ) (done : List Schema) (s : Schema) (a r : List ℕ) → TupleLeft d done s a r → HasFront (GoesOnBy follows_type) (IsType d) a
 tuple_next_begins d done s a r h =
     let f = row_front (IsType d) 44 SameType done h.parts.items a h.end h.row in

@@ -48,6 +48,7 @@ name_ends T k s b r ends h = elim (name_end T k s b r h) [
   | inr sign ↦ sign_ends_word 60 b sign.0 refl sign.1
 ]
 
+-- The word that was taken is the name with which the type begins.
 pub word_front : (T : Types) (s : Schema) (a v b r : List ℕ) → WordTaken a v b → EndsWord r → TakesPhrase (IsWorded T s) a r → WordFront T s v b r
 word_front T s a v b r taken ends (front, (k, name, named, h), whole) =
     let m = takes_split (IsWord name) (IsNamedRest T k s) a r (front, h, whole) in
@@ -67,6 +68,7 @@ word_rest T k s a v b r taken named ends h =
     let f = word_front T s a v b r taken ends h in
     subst (λ z. TakesPhrase (IsNamedRest T z s) b r) (one_name v f.kind k f.named named) f.left
 
+-- Taking the name of a type and what belongs to it takes the type.
 pub word_takes : (T : Types) (k : TypeName) (s : Schema) (v a b r : List ℕ) → IsTypeName v k → TakesPhrase (IsWord v) a b
     → TakesPhrase (IsNamedRest T k s) b r → TakesPhrase (IsWorded T s) a r
 word_takes T k s v a b r named word h =
@@ -131,6 +133,7 @@ type_as_enum d e s a r deep starts goes h = by (subst (λ n. TakesPhrase (IsType
 pub enum_bar_next : (text rest : List ℕ) → TakesPhrase (IsSign 124) text rest → Decides true (StartsEnum text)
 enum_bar_next text rest bar = (λ e. inl (rest, bar), λ starts. refl)
 
+-- After a variant's name, the next sign decides whether an enum is next.
 pub enum_if : (text v b : List ℕ) (r : Bool) → ((e : List ℕ) → TakesPhrase (IsSign 124) text e → ⊥) → WordTaken text v b → TakesPhrase (IsWord v) text b → IsVariantName v
     → Decides r (Starts follows_name b) → Decides r (StartsEnum text)
 enum_if text v b r none taken word named decides = (λ e. inr (v, b, named, word, decides.0 e), by)
@@ -139,6 +142,7 @@ enum_if text v b r none taken word named decides = (λ e. inr (v, b, named, word
     by (inl (rest, bar)) = absurd (none rest bar)
     by (inr (w, a, other, h, next)) = decides.1 (subst (Starts follows_name) (whole_word w v text b a other.0 taken h (name_ends_word a next)).1 next)
 
+-- A word that is no variant's name begins no enum.
 pub enum_unless : (text v b : List ℕ) → ((e : List ℕ) → TakesPhrase (IsSign 124) text e → ⊥) → WordTaken text v b → (IsVariantName v → ⊥)
     → Decides false (StartsEnum text)
 enum_unless text v b none taken lacks = (λ e. absurd (true≢false (sym e)), by)
@@ -162,6 +166,7 @@ pub record PlainFront (T : Types) (s : Schema) (a r : List ℕ) : Type 0 where
   pub ends : EndsWord rest
   pub left : OptionsLeft s (type_of first) 0 rest r
 
+-- A type that doesn't begin as an enum is another type with its `?`.
 pub type_as_plain : (d e : ℕ) (s : Schema) (a r : List ℕ) → d ≡ suc e → (StartsEnum a → ⊥) → GoesOnBy follows_type r → TakesPhrase (IsType d s) a r
     → PlainFront (IsType e) s a r
 unfolding IsType
@@ -195,7 +200,7 @@ options_end s t k a r h none = by h.more h.is h.signs
 pub options_full : (s : Schema) (t : MessageType) (k : ℕ) (a b r : List ℕ) → OptionsLeft s t k a r → 4 ≤ k → GoesOnBy follows_type r → TakesPhrase (IsSign 63) a b → ⊥
 options_full s t k a b r h full goes sign = let more = options_step s t k a b r h goes sign in omega (arith, full, more.few)
 
--- What is left after the type t' of which the text's first type is one.
+-- What is left once a type was taken of which the text's first type is one.
 pub options_of : (s x : Schema) (t : MessageType) (k : ℕ) (a b r : List ℕ) → t ≡ type_of x → a ≡ b → OptionsLeft s t k a r → OptionsLeft s (type_of x) k b r
 options_of s x t k a b r same e h = record { more = h.more; few = h.few; is = h.is ∙ ap (in_options h.more) same; signs = subst (λ z. Signs 63 h.more z r) e h.signs }
 
@@ -210,6 +215,7 @@ plain_list_left T s a b r (front, inr (inr (inl k)), whole) sign =
 plain_list_left T s a b r (front, inr (inr (inr k)), whole) sign =
     let m = takes_split (IsSign 123) (IsBracesRest T s) a r (front, k, whole) in absurd (other_sign 123 91 a m.0 b refl refl refl m.1 sign)
 
+-- After a `(`, the rest of a tuple is left.
 pub plain_tuple_left : (T : Types) (s : Schema) (a b r : List ℕ) → TakesPhrase (IsPlain T s) a r → TakesPhrase (IsSign 40) a b → TakesPhrase (IsTupleRest T s) b r
 plain_tuple_left T s a b r (front, inl h, whole) sign = absurd (starts_not_by is_of_word 40 a b refl refl (worded_head T s a r (front, h, whole)) sign)
 plain_tuple_left T s a b r (front, inr (inl k), whole) sign =
@@ -220,6 +226,7 @@ plain_tuple_left T s a b r (front, inr (inr (inl k)), whole) sign =
 plain_tuple_left T s a b r (front, inr (inr (inr k)), whole) sign =
     let m = takes_split (IsSign 123) (IsBracesRest T s) a r (front, k, whole) in absurd (other_sign 123 40 a m.0 b refl refl refl m.1 sign)
 
+-- After a `{`, the rest of a struct or a map is left.
 pub plain_braces_left : (T : Types) (s : Schema) (a b r : List ℕ) → TakesPhrase (IsPlain T s) a r → TakesPhrase (IsSign 123) a b → TakesPhrase (IsBracesRest T s) b r
 plain_braces_left T s a b r (front, inl h, whole) sign = absurd (starts_not_by is_of_word 123 a b refl refl (worded_head T s a r (front, h, whole)) sign)
 plain_braces_left T s a b r (front, inr (inl k), whole) sign =
@@ -279,6 +286,7 @@ braces_as_fields d s a r (v, b, c, filled, word, colon) (front, inr h, whole) =
     let k = map_begins (IsType d) s a r (front, h, whole) in
     absurd (type_not_named d k.0 a v b c k.1 k.2 k.3 (taken_whole v a b filled word (sign_ends_word 58 b c refl colon)) filled colon)
 
+-- After a `{` without a field, the rest of a map is left.
 pub braces_as_map : (d : ℕ) (s : Schema) (a r : List ℕ) → (IsNamed a → ⊥) → TakesPhrase (IsBracesRest (IsType d) s) a r → TakesPhrase (IsMapRest (IsType d) s) a r
 braces_as_map d s a r none (front, inl h, whole) = absurd (none (fields_named (IsType d) s a r (front, h, whole)))
 braces_as_map d s a r none (front, inr h, whole) = (front, h, whole)

@@ -32,6 +32,7 @@ none_left (b ∷ bs) all some =
     let e = pass_head is_underscore b bs all in
     none_left bs (pass_tail is_underscore b bs all) (subst (λ x. 0 < length (cond x (without_underscores bs) (b ∷ without_underscores bs))) e some)
 
+-- If not all bytes are `_`, something is left without them.
 pub some_left : (bs : List ℕ) → (AllPass is_underscore bs → ⊥) → 0 < length (without_underscores bs)
 some_left [] none = absurd (none (λ k d inside. absurd (omega (arith, inside))))
 some_left (b ∷ bs) none = by (is_underscore b) refl (some_left bs)
@@ -78,17 +79,19 @@ pub marked_refused : {T : Type 0} (letter : ℕ) (digits text : List ℕ) (r : R
     → IfErr r (λ e. IsNoNumber (λ n. AreDigits (radix_of letter) n digits) e) → IfErr r (λ e. IsNoNumber (λ n. IsLiteral n text) e)
 marked_refused letter digits text r is low h = refused_as _ _ (λ n d. inr (letter, digits, d, is)) (λ n l. marked_is n letter digits text is low l) r h
 
+-- A word that has no letter of a radix and doesn't begin with `_` can only be decimal digits. If it is refused as such, it is no literal.
 pub plain_refused : {T : Type 0} (text : List ℕ) (r : Result T LiteralError)
     → ((letter : ℕ) (digits : List ℕ) → text ≡ 48 ∷ letter ∷ digits → radix_of letter ≡ 0) → get_or text 0 0 ≢ 95
     → IfErr r (λ e. IsNoNumber (λ n. AreDigits 10 n text) e) → IfErr r (λ e. IsNoNumber (λ n. IsLiteral n text) e)
 plain_refused text r none first h = refused_as _ _ (λ n d. inl (first, d)) (λ n l. (plain_is n text none l).1) r h
 
--- What a count says of the word that is next.
+-- The next word, if a count is next.
 pub record CountOf (n : ℕ) (word after rest : List ℕ) : Type 0 where
   pub says : IsLiteral n word
   pub low : n < 2 ^ 64
   pub left : rest ≡ after
 
+-- The word that was taken is the one that denotes the count.
 pub count_of : (n : ℕ) (text word after rest : List ℕ) → WordTaken text word after → TakesPhrase (IsCount n) text rest → EndsWord rest → CountOf n word after rest
 count_of n text word after rest taken (front, ([], says, low, led), whole) ends = let some = literal_some n [] says in absurd (omega (arith, some))
 count_of n text word after rest taken (front, (x ∷ ds, says, low, led), whole) ends =

@@ -17,7 +17,7 @@ pub refusal : {p : Problem} {A B : Type 0} → (B → A) → IsRefusal p A → I
 refusal f (inl memory) = inl memory
 refusal f (inr none) = inr (λ b. none (f b))
 
--- A refusal remains one with another problem, if this says that memory is lacking where the first one did.
+-- A refusal remains one with another problem, if that is `OutOfMemory` where the first one was.
 pub refusal_as : {p q : Problem} {A : Type 0} → (p ≡ OutOfMemory → q ≡ OutOfMemory) → IsRefusal p A → IsRefusal q A
 refusal_as f (inl memory) = inl (f memory)
 refusal_as f (inr none) = inr none
@@ -51,9 +51,11 @@ pub reads_made : {A : Type 0} {Same : A → A → Type 0} {Next : List ℕ → T
 reads_made (Ok x) made refused takes may = takes x made
 reads_made (Err e) made refused takes may = refuses (refusal may refused)
 
+-- Taking a phrase makes the text no longer.
 pub takes_le : (P : List ℕ → Type 0) (a b : List ℕ) → TakesPhrase P a b → length b ≤ length a
 takes_le P a b (front, h, e) = let long = ap length e ∙ length-append front b in omega (arith, long)
 
+-- Taking a sign makes the text shorter.
 pub takes_less : (sign : ℕ) (a b : List ℕ) → TakesPhrase (IsSign sign) a b → length b < length a
 takes_less sign a b (front, (blanks, phrase, blank, is, e), whole) =
     let one = ap length is in
@@ -70,6 +72,7 @@ pub forget_new : (before : List (Named Schema)) (P : Named Schema → List ℕ �
     → TakesPhrase (IsNew before P n) a b → TakesPhrase (P n) a b
 forget_new before P n a b (front, (new, h), whole) = (front, h, whole)
 
+-- A field or a variant whose name was checked has a new name.
 pub is_new : (before : List (Named Schema)) (P : Named Schema → List ℕ → Type 0) (n : Named Schema) (a b : List ℕ)
     → TakesPhrase (IsNew before P n) a b → IsNewTo before (string_bytes n.name)
 is_new before P n a b (front, (new, h), whole) = new

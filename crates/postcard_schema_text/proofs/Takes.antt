@@ -1,4 +1,4 @@
--- Each kind of type is taken by taking its phrases one after another.
+-- If the phrases of a type are taken from the text one after another, the type is taken. There is a lemma for each kind of type.
 use Rattle.std.proofs.Common.{◌≡◌, ℕ, suc, ◌<◌, ◌≤◌, Bool, true, false, List, [], length, Vec, Box, refl, sym, ◌⊎◌, inl, inr}
 use Rattle.std.specs.declared.alloc.Global.{Global}
 use Rattle.postcard_schema.specs.declared.schema.Named.{Named}

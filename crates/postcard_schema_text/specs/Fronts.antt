@@ -49,7 +49,7 @@ HasFront {A} Next P text = (x : A) × (rest : List ℕ) × TakesPhrase (P x) tex
 abbrev pub IsOnlyFront : {A : Type 0} → (A → A → Type 0) → (List ℕ → Type 0) → (A → List ℕ → Type 0) → A → List ℕ → List ℕ → Type 0
 IsOnlyFront {A} Same Next P y text rest = (x : A) (after : List ℕ) → TakesPhrase (P x) text after → Next after → Same x y × (after ≡ rest)
 
--- A refusal with this problem: memory is lacking, or there is nothing to accept.
+-- A refusal with this problem: an allocation failed, or there is nothing to accept.
 abbrev pub IsRefusal : Problem → Type 0 → Type 0
 IsRefusal problem Accepted = (problem ≡ OutOfMemory) ⊎ (Accepted → ⊥)
 

@@ -17,7 +17,7 @@ without_underscores (b ∷ text) = cond (is_underscore b) (without_underscores t
 abbrev pub AreDigits : ℕ → ℕ → List ℕ → Type 0
 AreDigits radix n text = IsNumeral radix (without_underscores text) × (n ≡ digits_value radix (without_underscores text))
 
--- The text is decimal digits that denote the number n, of which one stands before any `_`.
+-- The text is decimal digits that denote the number n. It doesn't begin with `_`.
 abbrev pub IsDecimal : ℕ → List ℕ → Type 0
 IsDecimal n text = (slice_index text 0 ≢ 95) × AreDigits 10 n text
 

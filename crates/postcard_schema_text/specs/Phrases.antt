@@ -57,6 +57,6 @@ word_more word a b c trim (x, (pass, h), e) =
 pub sign_takes : (sign : ℕ) (s r after : List ℕ) → IsTrimAsciiStart s r → r ≡ sign ∷ after → TakesPhrase (IsSign sign) s after
 sign_takes sign s r after trim first = led (λ phrase. phrase ≡ sign ∷ []) s r after (trim_takes s r trim) (sign ∷ [], refl, first)
 
--- A prefix of a text has at most as many characters as the whole text.
+-- A prefix of a text has no more characters than the whole text.
 pub characters_take : (n : ℕ) (text : List ℕ) → characters (take n text) ≤ characters text
 characters_take n text = sum_by-take-le _ text n

@@ -70,7 +70,7 @@ fn digits_of(digits: &[u8], radix: u32) -> Result<u128, LiteralError>
     Ok(number)
 }
 
-/// Returns the number with one more digit of the radix after it, or as it is for a `_`. Returns
+/// Returns the number with one more digit of the radix appended. A `_` leaves it unchanged. Returns
 /// `None` if it is then 2^128 or more.
 fn with_digit(number: u128, byte: u8, radix: u32) -> Option<u128>
     requires low { 2 ≤ radix }

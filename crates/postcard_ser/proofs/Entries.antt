@@ -1,4 +1,4 @@
--- When P holds of some entry of a list.
+-- Lemmas on a property that holds of some entry of a list.
 use Rattle.std.proofs.Common.{◌≡◌, ◌<◌, List, ◌∷◌, ◌++◌, length, get_or, subst, arith, length-append}
 use Rattle.std.proofs.lemmas.Grind.{common_steps}
 use Rattle.std.specs.Prelude.{Any}

@@ -1,4 +1,4 @@
--- A value that is written part by part: what the calls did together, from what each did.
+-- Lemmas on values that are written part by part. They join what each call wrote to what the calls wrote together.
 use Rattle.std.proofs.Common.{◌≡◌, ◌⊎◌, inl, inr, Result, Ok, Err, IsErrAnd, ℕ, List, [], ◌++◌, append-nil}
 use Rattle.std.proofs.lemmas.Result.{IfErr-weaker, err_from_is_err_and}
 use Rattle.postcard_wire.specs.declared.error.Error.{Error}

@@ -1,4 +1,4 @@
--- A list that is written many elements at a time: what is written so far, and what is left.
+-- Lemmas on a list that is written many elements at a time: the elements written so far, and those that are left.
 use Rattle.std.proofs.Common.{◌≡◌, ℕ, ◌<◌, ◌≤◌, Result, Ok, Err, OnOk, List, [], ◌++◌, length, take, drop, refl, sym, ap, subst, ◌∙◌, append_assoc, arith}
 use Rattle.std.proofs.lemmas.List.{take-append-drop, length-drop}
 use Rattle.std.specs.Prelude.{Any, map}

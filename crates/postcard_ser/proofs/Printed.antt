@@ -1,5 +1,4 @@
--- What a printed text leaves of the writer that took it: its pieces are appended one after the
--- other.
+-- Printing a text into a writer appends the pieces of the text one after the other.
 use Rattle.std.proofs.Common.{◌≡◌, ℕ, ◌+◌, List, [], ◌∷◌, ◌++◌, length, Option, Some, None, Result, Ok, Err, OnOk, refl, subst, arith, length-append}
 use Rattle.std.specs.Prelude.{IfSome, IsUtf8}
 use Rattle.std.proofs.lemmas.Str.{IsUtf8-nil, IsUtf8-append}

@@ -1,4 +1,4 @@
--- Elements that an iterator gives are written one by one: those before the current one are written, and then it is.
+-- The elements of an iterator are written one by one: those before the current one are written, and then the current one.
 use Rattle.std.proofs.Common.{◌≡◌, List, [], ◌∷◌, ◌++◌, Ok, Err, refl, sym, subst}
 use Rattle.std.specs.Prelude.{map, Any}
 use Rattle.postcard_wire.specs.declared.error.Error.{Error}

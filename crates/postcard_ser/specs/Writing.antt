@@ -1,4 +1,4 @@
--- What a call did whose task was to pass bytes to a flavor.
+-- The outcome of a call that passes bytes to a flavor.
 use Rattle.std.specs.Prelude.{◌≡◌, ◌⊎◌, ◌↔◌, ℕ, List, Result, IsOk, OnOk, OnErr, IfOk, IfErr}
 use Rattle.postcard_ser_flavors.specs.Flavor.{AppendsFront}
 use Rattle.postcard_ser_flavors.specs.declared.flavor.Flavor.{Ghosts}
@@ -9,8 +9,8 @@ use Rattle.postcard_wire.specs.Spelling.{canonical, canonical_all}
 use Rattle.postcard_wire.specs.declared.error.Error.{Error}
 use Rattle.postcard_wire.specs.declared.error.Error.TheVariants.{SerializeBufferFull, CollectStrError}
 
--- The error of a call whose flavor refused a piece. If `text` holds, it may also be the error of a printed text: a piece of it was refused,
--- or printing failed (behaviour of postcard 1.1.3).
+-- The error of a call whose flavor refused a piece. If `text` holds, it may also be that of a printed text: a piece was refused, or
+-- printing failed (behaviour of postcard 1.1.3).
 abbrev pub IsWriteError : Type 0 → Error → Type 0
 IsWriteError text e = (e ≡ SerializeBufferFull) ⊎ (text × (e ≡ CollectStrError))
 
@@ -19,9 +19,10 @@ IsWriteError text e = (e ≡ SerializeBufferFull) ⊎ (text × (e ≡ CollectStr
 abbrev pub IsErrorOf : {V : Type 0} → Shape V → V → Error → Type 0
 IsErrorOf s v e = IsWriteError s.text e ⊎ s.refusal v e
 
--- The call, whose task was to pass the bytes xs to the flavor s, returned r and left t. After a success, just xs is appended. If s has room
--- for xs, an error is one of `refusal`, with which the value refuses itself. Without room it may also be the error of a refused piece. If
--- it refuses itself by no error, and the flavor is tidy, an error leaves a beginning of xs appended. In any case pushes may leave t.
+-- A call that passes the bytes xs to the flavor s returned r and left the flavor t. After a success, just xs is appended. If s has room for
+-- xs, an error is one of `refusal`, with which the value refuses itself. Without room it may also be the error of a refused piece. If the
+-- value doesn't refuse itself and the flavor is tidy, an error leaves a prefix of xs appended. Whatever the result, pushes can lead from s
+-- to t.
 pub record Wrote {S O : Type 0} (F : Ghosts S O) (s : S) (xs : List ℕ) (refusal : Error → Type 0) (text : Type 0) (r : Result (Unit {0}) Error) (t : S) : Type 0 where
   pub appends : OnOk r (F.appended s xs t)
   pub has_room : F.room s xs → IfErr r refusal
@@ -33,9 +34,8 @@ pub record Wrote {S O : Type 0} (F : Ghosts S O) (s : S) (xs : List ℕ) (refusa
 abbrev pub encoding : {V : Type 0} → Shape V → V → List ℕ
 encoding s v = canonical (s.tree v)
 
--- A call that encodes the value v returned r, of which `says` holds after a success. It succeeds if and only if
--- `room` holds, unless the value refuses itself; with room an error is one by which it does. After a success the
--- value fits.
+-- A call that encodes the value v returned r, of which `says` holds after a success. If the value doesn't refuse itself, it succeeds if and
+-- only if `room` holds. With room an error is one by which the value refuses itself. After a success the value fits.
 pub record Encodes {V R : Type 0} (s : Shape V) (v : V) (says : R → Type 0) (room : Type 0) (r : Result R Error) : Type 0 where
   pub gives : IfOk r says
   pub fits_iff : IsWilling s v → (IsOk r ↔ room)
@@ -43,13 +43,13 @@ pub record Encodes {V R : Type 0} (s : Shape V) (v : V) (says : R → Type 0) (r
   pub named_error : IfErr r (IsErrorOf s v)
   pub fits : OnOk r (s.fits v)
 
--- The same, of a call that asks for memory, which may run out.
+-- The same for a call that allocates, which may run out of memory.
 pub record EncodesGrowing {V R : Type 0} (s : Shape V) (v : V) (says : R → Type 0) (r : Result R Error) : Type 0 where
   pub gives : IfOk r says
   pub named_error : IfErr r (IsErrorOf s v)
   pub fits : OnOk r (s.fits v)
 
--- The call, whose task was to write the parts v of a row one after the other, returned r and left t.
+-- A call that writes the parts v of a row one after the other returned r and left the flavor t.
 abbrev pub WroteRow : {S O V : Type 0} → Ghosts S O → S → Row V → V → Result (Unit {0}) Error → S → Type 0
 WroteRow F s row v r t = Wrote F s (canonical_all (row.trees v)) (row.refusal v) row.text r t
 

@@ -1,4 +1,4 @@
--- A type says (`has_bytes`) that each of its messages has at least one byte; so it is.
+-- If `has_bytes` is true of a type, each of its messages has at least one byte.
 use Rattle.std.proofs.Common.{◌≡◌, ℕ, zero, suc, ◌<◌, inl, inr, Bool, true, false, List, [], ◌∷◌, ◌++◌, length, refl, ap, ◌∙◌, arith, length-append}
 use Rattle.std.specs.Prelude.{nat_lt, if◌then◌else◌}
 use Rattle.postcard_wire.specs.Number.{AreDigits, SpellsNum}

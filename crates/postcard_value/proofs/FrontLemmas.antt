@@ -1,4 +1,4 @@
--- Lemmas on values that bytes encode, one after another, and on values that can't be read: if the whole can't, its next part can't.
+-- Lemmas on values that bytes encode, one after another. Others are on values that can't be read: if the whole can't, its next part can't.
 use Rattle.std.proofs.Common.{◌≡◌, inr, ℕ, zero, suc, ◌+◌, ◌<◌, ◌≤◌, ◌^◌, List, [], ◌∷◌, ◌++◌, length, get_or, take, refl, sym, ap, subst, ◌∙◌, arith, append_assoc, append-nil}
 use Rattle.std.specs.Prelude.{Vec, Box}
 use Rattle.std.specs.declared.alloc.Global.{Global}
@@ -72,6 +72,7 @@ parts_more ss x done front a b = (
       (alone b.0 _ b.2),
 )
 
+-- The first i parts and part i are the first i + 1 parts.
 pub part_more : (xs : List Schema) (i : ℕ) (x : Schema) (done front : List ℕ) → i < length xs → x ≡ get_or xs i x → SpellsParts (take i xs) done
     → FrontSpells (type_of x) front → SpellsParts (take (i + 1) xs) (done ++ front)
 part_more xs i x done front low found d f =
@@ -82,6 +83,7 @@ contents_join : (ns ms : List (Named Schema)) → contents (ns ++ ms) ≡ conten
 contents_join [] ms = refl
 contents_join (n ∷ ns) ms = ap (λ xs. n.content ∷ xs) (contents_join ns ms)
 
+-- The first i fields and field i are the first i + 1 fields.
 pub field_more : (xs : List (Named Schema)) (i : ℕ) (x : Named Schema) (done front : List ℕ) → i < length xs → x ≡ get_or xs i x
     → SpellsParts (contents (take i xs)) done
     → FrontSpells (type_of x.content) front → SpellsParts (contents (take (i + 1) xs)) (done ++ front)
@@ -96,6 +98,7 @@ number_read w tree v front (n, is, low) e s = (rw (num_same w v n (sym e ∙ is)
 
 -- ---- the next part of a value that can't be read
 
+-- If no prefix encodes the option, no prefix after its byte 1 encodes the content.
 pub option_none : (s : Schema) (content : Box Schema Global) (bytes rest : List ℕ) → s ≡ schemas.Option content → bytes ≡ 1 ∷ rest
     → HasNoFront s bytes
     → HasNoFront content.value rest
@@ -106,32 +109,38 @@ option_none s content bytes rest is cut none = λ front after here f.
       (1 ∷ [], front, refl, f.2, refl),
     ))
 
+-- If no prefix encodes the list, no prefix after its count encodes the elements.
 pub list_none : (s : Schema) (element : Box Schema Global) (bytes count rest : List ℕ) (n : ℕ) → s ≡ schemas.Seq element → bytes ≡ count ++ rest
     → n < 2 ^ 64 → SpellsNum 64 n count → HasNoFront s bytes → HasNoRow (type_of element.value) n rest
 list_none s element bytes count rest n is cut low num none front after here (ts, (size, each), f) =
     none (count ++ front) after (cut ∙ ap (λ x. count ++ x) here ∙ sym (append_assoc count front after))
     (rw (is, type_of_seq element) (Seq ts, (ts, refl, rw size low, each), (count, front, rw size num, f, refl)))
 
+-- If no prefix encodes the map, no prefix after its count encodes the entries.
 pub map_none : (s : Schema) (k v : Box Schema Global) (bytes count rest : List ℕ) (n : ℕ) → s ≡ schemas.Map k v → bytes ≡ count ++ rest
     → n < 2 ^ 64 → SpellsNum 64 n count → HasNoFront s bytes → HasNoRow (entry_of (type_of k.value) (type_of v.value)) n rest
 map_none s k v bytes count rest n is cut low num none front after here (ts, (size, each), f) =
     none (count ++ front) after (cut ∙ ap (λ x. count ++ x) here ∙ sym (append_assoc count front after))
     (rw (is, type_of_map k v) (Seq ts, (ts, refl, rw size low, each), (count, front, rw size num, f, refl)))
 
+-- If no prefix encodes the array, none encodes its elements.
 pub array_none : (s : Schema) (element : Box Schema Global) (bytes : List ℕ) (n : ℕ) → s ≡ schemas.Array element n → HasNoFront s bytes
     → HasNoRow (type_of element.value) n bytes
 array_none s element bytes n is none = λ front rest cut r.
     none front rest cut (rw (is, type_of_array element n) (Group r.0, (r.0, refl, r.1.0, r.1.1), r.2))
 
+-- If a prefix encodes all parts in a row, it encodes the tuple.
 pub tuple_none : (s : Schema) (parts : Vec Schema Global) (bytes front rest : List ℕ) → s ≡ schemas.Tuple parts → bytes ≡ front ++ rest
     → SpellsParts parts.items front
     → HasNoFront s bytes → ⊥
 tuple_none s parts bytes front rest is cut (ts, r, f) none = none front rest cut (rw (is, type_of_tuple parts) (Group ts, (ts, refl, r), f))
 
+-- If a prefix encodes all fields in a row, it encodes the struct.
 pub struct_none : (s : Schema) (fields : Vec (Named Schema) Global) (bytes front rest : List ℕ) → s ≡ schemas.Struct fields → bytes ≡ front ++ rest
     → SpellsParts (contents fields.items) front → HasNoFront s bytes → ⊥
 struct_none s fields bytes front rest is cut (ts, r, f) none = none front rest cut (rw (is, type_of_struct fields) (Group ts, (ts, refl, r), f))
 
+-- If no prefix encodes the enum, no prefix after the variant's index encodes the variant's content.
 pub variant_none : (s : Schema) (variants : Vec (Named Schema) Global) (bytes index rest : List ℕ) (i : ℕ) (x : Named Schema)
     → s ≡ schemas.Enum variants
     → i < length variants.items → x ≡ get_or variants.items i x → bytes ≡ index ++ rest → i < 2 ^ 32 → SpellsNum 32 i index → HasNoFront s bytes

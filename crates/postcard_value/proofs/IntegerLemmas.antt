@@ -1,4 +1,4 @@
--- Lemmas on integers that are read: the tree of what was read is that of its bits.
+-- Lemmas on integers that are read: the tree that was read is that of the bits returned.
 use Rattle.std.proofs.Common.{◌≡◌, ℕ, ◌-◌, ◌*◌, ◌%◌, ◌<◌, ◌^◌, suc, ℤ, pos, negsuc, refl, sym, ap, ◌∙◌, subst, arith, mod-eq_of_lt}
 use Rattle.std.specs.Int.{Width, cast_signed, cast_unsigned}
 use Rattle.std.proofs.lemmas.Int.{ints, to_z-of_z}

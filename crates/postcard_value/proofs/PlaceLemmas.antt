@@ -1,4 +1,4 @@
--- Lemmas on the part in which reading a value stops, by that of what is in a row in it.
+-- Lemmas for `refused_at`: in which part reading a value stops. They lead from a whole to the first of its parts that can't be read.
 use Rattle.std.proofs.Common.{◌≡◌, ℕ, ◌+◌, ◌<◌, ◌^◌, inl, inr, List, [], ◌∷◌, ◌++◌, length, Option, None, Some, sym, ap, ◌∙◌, arith, append_assoc, append-nil, length-append}
 use Rattle.std.specs.Prelude.{Box}
 use Rattle.std.specs.Borrow.{Bor}
@@ -12,6 +12,7 @@ use Rattle.postcard_value.specs.Fronts.{HasNoFront}
 use Rattle.postcard_value.specs.Refused.{Entered, StopsAt, StopsHere, here, inside, Finds, FindsElement, FindsEntry, in_list, in_array, in_key, in_value}
 use Rattle.postcard_value.proofs.FrontLemmas.{list_none, map_none, array_none, list_depth, array_depth, entry_depth}
 
+-- What was found among the elements was found in the list.
 pub list_finds : (s : Schema) (element : Box Schema Global) (bytes count rest : List ℕ) (n : ℕ) → s ≡ schemas.Seq element → bytes ≡ count ++ rest
     → n < 2 ^ 64
     → SpellsNum 64 n count → (old new : List Step) (found : Option (Bor Schema × Bor (List ℕ))) → FindsElement element.value n rest old new found
@@ -31,12 +32,14 @@ list_finds s element bytes count rest n is cut few num old new (Some part) (i, f
       list_depth s element is,
     )
 
+-- What was found among the elements was found in the array.
 pub array_finds : (s : Schema) (element : Box Schema Global) (bytes : List ℕ) (n : ℕ) → s ≡ schemas.Array element n → (old new : List Step)
     (found : Option (Bor Schema × Bor (List ℕ))) → FindsElement element.value n bytes old new found → Finds s bytes old new found
 array_finds s element bytes n is old new None (row, same) = (λ none. absurd (row (array_none s element bytes n is none)), same)
 array_finds s element bytes n is old new (Some part) (i, front, low, each, more, join, lack, own) =
     rw own ((front, Element i ∷ [], in_array s element n i front is low each, more, join, λ none. rw own at lack), array_depth s element n is)
 
+-- What was found among the entries was found in the map.
 pub map_finds : (s : Schema) (k v : Box Schema Global) (bytes count rest : List ℕ) (n : ℕ) → s ≡ schemas.Map k v → bytes ≡ count ++ rest → n < 2 ^ 64
     → SpellsNum 64 n count → (old new : List Step) (found : Option (Bor Schema × Bor (List ℕ))) → FindsEntry k.value v.value n rest old new found
     → Finds s bytes old new found
@@ -72,6 +75,7 @@ pub some_found : (s : Schema) (bytes : List ℕ) (old new : List Step) (found : 
     → found ≡ Some part → Finds s bytes old new found → Entered s bytes old new part.0.now part.1.now
 some_found s bytes old new found part is h = (rw is at h).0
 
+-- If nothing is found, reading stops at the first node of the value.
 pub none_found : (s : Schema) (bytes : List ℕ) (old new : List Step) (found : Option (Bor Schema × Bor (List ℕ))) → found ≡ None
     → Finds s bytes old new found
     → (HasNoFront s bytes → StopsHere s bytes) × (new ≡ old)

@@ -35,10 +35,12 @@ list_tree f t vs h = h.1 ∙ ap Seq (each_tree f h.0 vs h.2)
 
 -- ---- the types from the loop's place on
 
+-- Reading the parts from i on is reading part i and then those after it.
 pub part_next : (xs : List Schema) (i : ℕ) (x : Schema) → i < length xs → x ≡ get_or xs i x
     → types_of (drop i xs) ≡ then_type (type_of x) (types_of (drop (i + 1) xs))
 part_next xs i x low is = ap types_of (drop_more xs i x low ∙ ap (λ y. y ∷ drop (i + 1) xs) (sym is))
 
+-- Reading the fields from i on is reading field i and then those after it.
 pub field_next : (xs : List (Named Schema)) (i : ℕ) (x : Named Schema) → i < length xs → x ≡ get_or xs i x
     → types_of (contents (drop i xs)) ≡ then_type (type_of x.content) (types_of (contents (drop (i + 1) xs)))
 field_next xs i x low is = ap (λ ys. types_of (contents ys)) (drop_more xs i x low ∙ ap (λ y. y ∷ drop (i + 1) xs) (sym is))
@@ -59,6 +61,7 @@ no_elements : (R : Tree → Type 0) (ts : Trees) → AreRead 0 R ts → ts ≡ N
 no_elements R NoTrees a = refl
 no_elements R (Then t ts) a = absurd (omega (arith, a.0))
 
+-- No element is left to read.
 pub elements_over : (R : Tree → Type 0) → IsOver (AreRead 0 R)
 elements_over R = ((refl, tt), no_elements R)
 

@@ -70,7 +70,7 @@ pub fits_128 : (i : Integer) (z : ℤ) (n : ℕ) → IsBitsOf i z n → FitsSign
 fits_128 i (pos m) n (low, is) = record { sfits = omega (arith, ints, halves i, at_most_128 i, low.0, low.1) }
 fits_128 i (negsuc m) n (low, is) = record { sfits = omega (arith, ints, halves i, at_most_128 i, low.0, low.1) }
 
--- The bits of a signed number are below 256 ^ k, and it is the number of which they are the bits.
+-- The bits of a signed number are below 256 ^ k, and the signed number of these bits is that number.
 pub bits_below : (i : Integer) (z : ℤ) (n : ℕ) → IsBitsOf i z n → n < 256 ^ size_of i
 bits_below i (pos m) n (low, is) = omega (arith, ints, halves i, low.0, low.1, is)
 bits_below i (negsuc m) n (low, is) = omega (arith, ints, halves i, low.0, low.1, is)

@@ -23,7 +23,7 @@ IsBitsOf integer z n = InRange (8 * size_of integer) z × (n ≡ twos_complement
 abbrev pub number_tree : Bool → ℕ → ℕ → Tree
 number_tree signed k n = if k == 1 then Byte n else if signed then Int (8 * k) (signed_of k n) else Num (8 * k) n
 
--- The tree of the number of the type with the bits n, of which those above its width are left out.
+-- The tree of the number of the type with the bits n. Bits above the type's width are left out.
 abbrev pub integer_tree : Integer → ℕ → Tree
 integer_tree integer n = number_tree (is_signed integer) (size_of integer) (n % 256 ^ size_of integer)
 

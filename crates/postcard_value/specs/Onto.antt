@@ -1,4 +1,4 @@
--- What a call does that reads a value and keeps it.
+-- What a call does that reads a value and appends it to a list.
 use Rattle.std.specs.Prelude.{◌≡◌, List, [], ◌∷◌, ◌++◌, Result, Ok, MatchResult}
 use Rattle.postcard_wire.specs.declared.error.Error.{Error}
 use Rattle.postcard_wire.specs.Tree.{Tree}

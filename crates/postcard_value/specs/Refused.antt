@@ -29,7 +29,7 @@ pub data StopsHere : Schema → List ℕ → Type 0 where
       → HasNoIndex (length variants.items) bytes
       → StopsHere s bytes
 
--- `Enters s front steps x`: these steps lead from a value of s to a part of the schema x, before which it has the bytes `front`.
+-- `Enters s front steps x`: these steps lead from a value of s to a part of the schema x. The value has the bytes `front` before that part.
 pub data Enters : Schema → List ℕ → List Step → Schema → Type 0 where
   in_option : (s : Schema) (content : Box Schema Global) → s ≡ schemas.Option content → Enters s (1 ∷ []) [] content.value
   -- An element of a list, and the key and the value of an entry.
@@ -59,8 +59,8 @@ pub data Enters : Schema → List ℕ → List Step → Schema → Type 0 where
       → SpellsNum 32 i index
       → Enters s index (Name name ∷ []) variant.content
 
--- Reading a value of the schema from a prefix of the bytes stops at the part with this path, which begins at this offset. All before it is
--- read, and it can't be.
+-- Reading a value of the schema from a prefix of the bytes stops at the part with this path, which begins at this offset. All parts before
+-- it can be read, and this part can't.
 pub data StopsAt : Schema → List ℕ → List Step → ℕ → Type 0 where
   here : (s : Schema) (bytes : List ℕ) → StopsHere s bytes → StopsAt s bytes [] 0
   inside : (s x : Schema) (bytes front rest : List ℕ) (steps path : List Step) (offset : ℕ) → Enters s front steps x → bytes ≡ front ++ rest

@@ -7,8 +7,8 @@ use Rattle.postcard_value.specs.Tree.{tree, IsTree}
 use Rattle.postcard_value.specs.declared.value.Value.{Value}
 use Rattle.postcard_value.specs.TypeLaws.{type_delimited, type_well_formed}
 
--- The shape of the values of a type: those whose tree is one of the type. It says nothing of
--- memory: a call that reads such a value says itself what it does if an allocation fails.
+-- The shape of the values of a type: those whose tree is one of the type. Whether reading allocates is not part of it: the contract of a
+-- call that reads says what happens if an allocation fails.
 abbrev pub shape_of : MessageType → Shape Value
 shape_of t = record {
   tree = tree;

@@ -113,7 +113,7 @@ value_ends (boolean b ∷ ts) = (refl, refl)
 value_ends (null ∷ ts) = (refl, refl)
 value_ends (bad ∷ ts) = (refl, refl)
 
--- The text is lexed as it is with escapes.
+-- The text has the same tokens as with escapes.
 abbrev Same : List ℕ → Type 0
 Same bs = lex between (bytes_of bs) ≡ lex between bs
 
@@ -171,5 +171,6 @@ tokens_escaped text j utf8 printed is =
 pub tokens_shown : (text shown : List ℕ) (d : Data) → IsUtf8 text → text ≡ print (tokens text) → IsInOrder text d → shown ≡ escaped text → tokens shown ≡ tokens text
 tokens_shown text shown d utf8 printed (j, is, blank) e = ap tokens e ∙ tokens_escaped text j utf8 printed is
 
+-- Texts of the same tokens are the same JSON.
 pub same_read : (a b : List ℕ) → tokens a ≡ tokens b → read a ≡ read b
 same_read a b e = ap (λ ts. option_and_then of_json (option_and_then (λ p. if_last p.0 p.1) (value max_depth ts))) e

@@ -1,4 +1,4 @@
--- Escapes in place of control characters leave the tokens of a text of JSON as they are.
+-- Escapes in place of control characters don't change the tokens of a JSON text.
 use Rattle.std.proofs.Common.{◌≡◌, ◌≢◌, ℕ, ◌+◌, ◌*◌, ◌/◌, ◌%◌, ◌<◌, ◌≤◌, Bool, true, false, cond, ◌==◌, ◌&&◌, nat_lt, nat_le, not, List, [], ◌∷◌, ◌++◌, flat_map, Option, Some, None, IsUtf8, inl, inr, ◌⊎◌, refl, sym, ap, ap₂, ◌∙◌, subst, arith, append_assoc}
 use Rattle.std.proofs.lemmas.Bool.{cases_eq, cases_lt, ne_eqb, le-ltb, lt-leb, lt-ltb, le-leb, and_parts, eqb-true, ltb-true, cases_Bool, cond-true, cond-false, and_from, and_left, and_right, agree_below_at, not-true, eqb-false}
 use Rattle.std.proofs.lemmas.Str.{chars-encodes, encode_ascii}
@@ -123,6 +123,7 @@ plain_bytes (b ∷ bs) pass =
     let low : b < 127 = ltb-true b 127 (pass_head (λ byte. nat_lt byte 127) b bs pass) in
     one_byte b bs (λ e. omega (arith, low)) (λ e. omega (arith, low)) ∙ ap (λ s. b ∷ s) (plain_bytes bs (pass_tail (λ byte. nat_lt byte 127) b bs pass))
 
+-- Escaping the characters of a text is the same as escaping its bytes one by one.
 pub escaped_bytes : (text : List ℕ) → IsUtf8 text → escaped text ≡ bytes_of text
 escaped_bytes text (cs, (are, e)) =
     ap (λ t. flat_map escaped_char (chars t)) (sym e) ∙ ap (flat_map escaped_char) (chars-encodes cs are) ∙ sym (chars_bytes cs) ∙ ap bytes_of e
@@ -347,6 +348,7 @@ step f x =
       ]
     ]
 
+-- The content of an escaped string is that of the string.
 pub string_read : (f : Bool) (s bs : List ℕ) → content plain (bytes_after f (escape s ++ 34 ∷ bs)) ≡ Some (before f ++ s)
 unfolding bytes_after content
 string_read false [] bs = refl
@@ -357,6 +359,7 @@ string_read f (x ∷ s) bs =
     ap (λ u. content plain (bytes_after f u)) (append_assoc (escape_byte x) (escape s) (34 ∷ bs)) ∙ ap (content plain) (k.is _) ∙ k.read _
     ∙ ap (prepend k.held) (string_read k.after s bs) ∙ ap Some joined
 
+-- After an escaped string, the tokens go on as after the string.
 pub string_lexed : (f : Bool) (s bs : List ℕ) → lex in_string (bytes_after f (escape s ++ 34 ∷ bs)) ≡ lex between (bytes_of bs)
 unfolding bytes_after lex
 string_lexed false [] bs = refl

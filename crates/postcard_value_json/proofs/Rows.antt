@@ -103,6 +103,7 @@ pub row_none : (js : List json.Value) → (length js == 0) ≡ true → parts_ro
 row_none [] e = refl
 row_none (j ∷ js) e = cc (sym (eqb-suc-zero (length js)) ∙ e)
 
+-- The JSON of all parts in a row is that of the tuple.
 pub parts_whole : (ss rs : List Schema) (us vs : List Value) (ds : List Data) → ss ≡ rs → us ≡ vs → each_json (map writer_of ss) (trees (map tree us)) ≡ Some ds
     → parts_json (writers (layouts_of rs)) (trees (map tree vs)) ≡ Some (parts_row ds)
 parts_whole ss rs us vs ds left same so =
@@ -154,6 +155,7 @@ pub fields_map : (ns : List (Named Schema)) → field_writers (fields_of ns) ≡
 fields_map [] = refl
 fields_map (n ∷ ns) = ap (λ fs. field_writer n ∷ fs) (fields_map ns)
 
+-- The members of all fields are those of the struct.
 pub fields_whole : (ms ns : List (Named Schema)) (us vs : List Value) (done : Members) → ms ≡ ns → us ≡ vs → members_json (map field_writer ms) (trees (map tree us)) values.no_members ≡ Some done
     → fields_json (field_writers (fields_of ns)) (trees (map tree vs)) ≡ Some (values.object done)
 fields_whole ms ns us vs done left same so =

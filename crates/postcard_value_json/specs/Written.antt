@@ -104,7 +104,7 @@ can_be_null x = is_unit x
 abbrev pub alone : List ℕ → Data → Data
 alone name d = object (member name d no_members)
 
--- The JSON of an option: `null`, or the content's, which stands in an object `{"Some": ..}` if it may itself be `null`.
+-- The JSON of an option: `null`, or that of the content. If the content's JSON may be `null`, it stands in an object `{"Some": ..}`.
 abbrev pub option_json : Bool → Writer → Writer
 option_json nullable p nodes.Absent = Some null
 option_json true p (nodes.Present t) = option_map (alone (codes "Some")) (p t)
@@ -116,7 +116,7 @@ abbrev pub all_json : Writer → Trees → Option (List Data)
 all_json p NoTrees = Some []
 all_json p (Then t ts) = option_and_then (λ d. option_map (λ ds. d ∷ ds) (all_json p ts)) (p t)
 
--- The JSON of trees, each by its own writer; `None` if there are more writers than trees, or fewer.
+-- The JSON of trees, each by its own writer. It is `None` if the numbers of writers and trees differ.
 abbrev pub each_json : List Writer → Trees → Option (List Data)
 each_json [] NoTrees = Some []
 each_json (p ∷ ps) (Then t ts) = option_and_then (λ d. option_map (λ ds. d ∷ ds) (each_json ps ts)) (p t)

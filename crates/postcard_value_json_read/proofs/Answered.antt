@@ -93,6 +93,7 @@ nullable_form m x u d b (inr (s, is, r), h) =
     let k = subst (λ z. IsOptionJson z (IsJsonOf x) (nodes.Present s) d) b (subst (λ z. IsOptionJson (can_be_null x) (IsJsonOf x) z d) is h) in
     inr (s, k.0, is, k.1, (r, k.2))
 
+-- If the content's JSON is never `null`, an option's JSON is `null` or that of the content.
 pub plain_form : (m : MessageType) (x : Layout) (u : Tree) (d : Data) → can_be_null x ≡ false → IsReading (option m) (layouts.option x) u d
     → ((u ≡ nodes.Absent) × (d ≡ null)) ⊎ ((s : Tree) × (u ≡ nodes.Present s) × IsReading m x s d)
 plain_form m x u d b (inl is, h) = inl (is, subst (λ z. IsOptionJson (can_be_null x) (IsJsonOf x) z d) is h)
@@ -136,6 +137,7 @@ nullable_only m x t d e b is (h, one) = (
         let alike : f ≡ e = (same_alone (codes "Some") (codes "Some") f e (sym has ∙ is)).1 in
         same ∙ ap nodes.Present (one names s (subst (IsReading m x s) alike r))
 
+-- If JSON isn't `null`, the option's only tree has the content's only tree.
 pub plain_only : (m : MessageType) (x : Layout) (t : Tree) (d : Data) → can_be_null x ≡ false → (d ≡ null → ⊥) → IsOnly (HasDistinctNames x) (IsReading m x) t d
     → IsOnly (HasDistinctNames x) (IsReading (option m) (layouts.option x)) (nodes.Present t) d
 plain_only m x t d b full (h, one) = (
@@ -188,6 +190,7 @@ items_one D R NoTrees us (item d ds) h names r = absurd h
 items_one D R (Then t ts) NoTrees (item d ds) h names r = absurd r
 items_one D R (Then t ts) (Then u us) (item d ds) h names r = ap₂ Then (h.0.1 names u r.0) (items_one D R ts us ds h.1 names r.1)
 
+-- If each item is the only one that its JSON denotes, so are all items together.
 pub items_only : (D : Type 0) (R : Reading) (ts : Trees) (ds : Items) → AreItems (IsOnly D R) ts ds → IsOnly D (AreItems R) ts ds
 items_only D R ts ds h = (items_held D R ts ds h, λ names us r. items_one D R ts us ds h names r)
 
@@ -217,6 +220,7 @@ module _ (P : Tree → Type 0) (R : Reading) where
   items_both (Then t ts) no_items each h = absurd h
   items_both (Then t ts) (item d ds) each h = ((each.0, h.0), items_both ts ds each.1 h.1)
 
+-- There is one tree for each item.
 pub items_count : (R : Reading) (ts : Trees) (ds : Items) → AreItems R ts ds → count ts ≡ items_len ds
 items_count R NoTrees no_items h = refl
 items_count R NoTrees (item d ds) h = absurd h
@@ -264,6 +268,7 @@ module _ (P : Tree → Type 0) (R : Reading) where
 
 -- ---- what an answer says
 
+-- An answer for JSON that denotes a tree is that tree, or out of memory.
 pub answer_accepted : (D : Type 0) (m : MessageType) (x : Layout) (d : Data) (r : Result Value JsonError) → Answers D tree (IsReading m x) d r → D → (t : Tree) → reads m t → IsJsonOf x t d
     → MatchResult r (λ v. t ≡ tree v) (λ e. e ≡ OutOfMemory)
 answer_accepted D m x d (Ok v) h names t r spelled = h.1 names t (r, spelled)

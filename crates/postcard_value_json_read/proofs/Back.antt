@@ -44,6 +44,7 @@ AreReadBack no_types no_layouts = Unit {0}
 AreReadBack (then_type m ms) (then_layout x xs) = IsReadBack m x × AreReadBack ms xs
 AreReadBack ms xs = ⊥
 
+-- The JSON of each field is read back as the value that it was written of.
 abbrev AreFieldsBack : MessageTypes → Fields → Type 0
 AreFieldsBack no_types no_fields = Unit {0}
 AreFieldsBack (then_type m ms) (then_field n x fs) = IsReadBack m x × AreFieldsBack ms fs
@@ -247,7 +248,7 @@ rows_told : (es : List Told) → AreReadBack (row_of (map type_of (map schema_in
 rows_told [] = tt
 rows_told (e ∷ es) = (e.1, rows_told es)
 
--- The types and the layouts of names whose schemas are told of.
+-- The types and the layouts of names of such schemas.
 abbrev named_types : List (Named Told) → MessageTypes
 named_types es = row_of (contents (map (former-Schema-Struct-0-at-2.map Schema MessageType type_of) (map (former-Schema-Struct-0-at-2.map Told Schema schema_in) es)))
 

@@ -1,4 +1,4 @@
--- What is left of a text is its end.
+-- Lemmas that what a function leaves of a text is an end of that text.
 use Rattle.std.proofs.Common.{◌≡◌, ℕ, Bool, true, false, cond, List, [], ◌∷◌, ◌++◌, length, refl, sym, ap, subst, ◌∙◌}
 use Rattle.std.specs.Bool.{◌==◌}
 use Rattle.std.proofs.Math.Dec.{eqb-suc-zero}

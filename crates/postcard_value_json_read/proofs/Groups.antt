@@ -61,6 +61,7 @@ parts_one (s ∷ ss) (v ∷ vs) (j ∷ js) us h names (u, more, is, first, rest)
     let all = subst (λ z. AreParts (layouts_of (s ∷ ss)) z (items_view (j ∷ js))) is spelled in
     is ∙ ap₂ Then (h.0.1 names.0 u (first, all.0)) (parts_one ss vs js more h.1 names.1 rest all.1)
 
+-- The parts that were read are the only ones that the items denote.
 pub parts_only : (ss : List Schema) (vs : List Value) (js : List json.Value) → ArePartsOnly ss vs js
     → IsOnly (HaveDistinctNames (layouts_of ss)) (ArePartsReading (types_of ss) (layouts_of ss)) (trees (map tree vs)) (items_view js)
 parts_only ss vs js h = (parts_read ss vs js h, λ names us r. parts_one ss vs js us h names r.0 r.1)
@@ -77,6 +78,7 @@ part_at (z ∷ ss) us (k ∷ js) (suc i) s j ((u, more, is, first, rest), h) low
     let all = subst (λ y. AreParts (layouts_of (z ∷ ss)) y (items_view (k ∷ js))) is h in
     part_at ss more js i s j (rest, all.1) (omega (arith, low)) here there
 
+-- If names tell the values of all parts apart, they tell those of the part at i apart.
 pub distinct_at : (ss : List Schema) (i : ℕ) (s : Schema) → HaveDistinctNames (layouts_of ss) → i < length ss → s ≡ get_or ss i s → HasDistinctNames (layout_of s)
 distinct_at [] i s names low here = absurd (omega (arith, low))
 distinct_at (u ∷ us) zero s names low here = subst HasDistinctNames (ap layout_of (sym here)) names.0
@@ -102,12 +104,14 @@ pub record TupleForm (ss : List Schema) (u : Tree) (d : Data) : Type 0 where
   pub long : items_len items ≡ length ss
   pub read : ArePartsReading (types_of ss) (layouts_of ss) parts items
 
+-- The JSON of a tuple that isn't the unit is an array of its parts.
 pub tuple_form : (ss : List Schema) (u : Tree) (d : Data) → (length ss ≡ 0 → ⊥) → IsReading (group (types_of ss)) (layouts.tuple (layouts_of ss)) u d → TupleForm ss u d
 tuple_form [] u d full r = absurd (full refl)
 tuple_form (s ∷ ss) u d full ((us, is, each), h) =
     let k = subst (λ z. IsTupleJson (layouts_of (s ∷ ss)) (AreParts (layouts_of (s ∷ ss))) z d) is h in
     record { parts = us; items = k.0; is = is; form = k.1; long = parts_count (s ∷ ss) us k.0 k.2; read = (each, k.2) }
 
+-- The tuple that was read is the only one that the array denotes.
 pub tuple_only : (ss : List Schema) (ts : Trees) (ds : Items) → (length ss ≡ 0 → ⊥)
     → IsOnly (HaveDistinctNames (layouts_of ss)) (ArePartsReading (types_of ss) (layouts_of ss)) ts ds
     → IsOnly (HaveDistinctNames (layouts_of ss)) (IsReading (group (types_of ss)) (layouts.tuple (layouts_of ss))) (nodes.Group ts) (values.array ds)
@@ -179,6 +183,7 @@ half_from h m x u d ds e form found (es, is, long, f, has, r) =
     let same : es ≡ ds = same_items ds es (sym form ∙ is) in
     subst (IsReading m x u) (some_is f e (sym has ∙ ap (get_item h) same ∙ found)) r
 
+-- If a value is the only one that an item denotes, it is the only one for that half of the entry.
 pub half_answer : (h : ℕ) (m : MessageType) (x : Layout) (t : Tree) (d : Data) (ds : Items) (e : Data) → d ≡ values.array ds → items_len ds ≡ 2 → get_item h ds ≡ Some e
     → IsOnly (HasDistinctNames x) (IsReading m x) t e → IsOnly (HasDistinctNames x) (IsHalfReading h m x) t d
 half_answer h m x t d ds e form long found (r, one) = ((ds, form, long, e, found, r), λ names u q. one names u (half_from h m x u d ds e form found q))
@@ -214,6 +219,7 @@ fields_one (n ∷ ns) (v ∷ vs) us d h names (u, more, is, first, rest) spelled
     let all = subst (λ z. AreFields (fields_of (n ∷ ns)) z d) is spelled in
     is ∙ ap₂ Then (h.0.1 names.1 u (all.0.0, all.0.1, (first, all.0.2))) (fields_one ns vs more d h.1 names.2 rest all.1)
 
+-- The fields that were read are the only ones that the members denote.
 pub fields_only : (ns : List (Named Schema)) (vs : List Value) (d : Data) → AreFieldsOnly ns vs d
     → IsOnly (AreNamed (fields_of ns)) (AreFieldsReading (types_of (contents ns)) (fields_of ns)) (trees (map tree vs)) d
 fields_only ns vs d h = (fields_read ns vs d h, λ names us r. fields_one ns vs us d h names r.0 r.1)
@@ -245,6 +251,7 @@ struct_form ns u d ((us, is, each), h) =
     let k = subst (λ z. IsStructJson (fields_len (fields_of ns)) (AreFields (fields_of ns)) z d) is h in
     (us, is, subst (λ n. HasMembers n d) (fields_length ns) k.0, (each, k.1))
 
+-- The struct that was read is the only one that the object denotes.
 pub struct_only : (ns : List (Named Schema)) (ts : Trees) (d : Data) → HasMembers (length ns) d
     → IsOnly (AreNamed (fields_of ns)) (AreFieldsReading (types_of (contents ns)) (fields_of ns)) ts d
     → IsOnly (AreNamed (fields_of ns)) (IsReading (group (types_of (contents ns))) (layouts.structure (fields_of ns))) (nodes.Group ts) d

@@ -36,11 +36,13 @@ ends_float = (tt, no_sign 40)
 
 -- ---- numbers
 
+-- JSON is at most one unsigned number.
 pub unsigned_one : (a b : ℕ) (d : Data) → IsUnsignedJson a d → IsUnsignedJson b d → a ≡ b
 unsigned_one a b (number (unsigned m)) x y = x ∙ sym y
 unsigned_one a b (string s) x y = x.1 ∙ sym y.1
 unsigned_one a b d x y = absurd x
 
+-- JSON is at most one signed number.
 pub signed_one : (a b : ℤ) (d : Data) → IsSignedJson a d → IsSignedJson b d → a ≡ b
 signed_one a b (number (unsigned m)) x y = x ∙ sym y
 signed_one a b (number (negative m)) x y = x ∙ sym y
@@ -64,6 +66,7 @@ pub only_by : {X : Type 0} (f : X → Tree) (R : Reading) (S : X → Type 0) (x 
     → IsOnly (Unit {0}) R (f x) d
 only_by f R S x d form h one = (h, λ names u r. let k = form u r in k.1 ∙ ap f (one k.0 k.2))
 
+-- If each tree that the JSON denotes has a form, and the JSON has nothing of that form, it denotes no tree.
 pub none_by : {X : Type 0} (f : X → Tree) (R : Reading) (S : X → Type 0) (d : Data) → ((u : Tree) → R u d → (y : X) × (u ≡ f y) × S y) → ((y : X) → S y → ⊥) → (u : Tree) → R u d → ⊥
 none_by f R S d form none u r = let k = form u r in none k.0 k.2
 
@@ -71,6 +74,7 @@ none_by f R S d form none u r = let k = form u r in none k.0 k.2
 abbrev pub LeafReading : Leaf → Reading
 LeafReading l = IsReading (leaf l) (layouts.leaf l)
 
+-- JSON that denotes a character is a string of that character.
 pub char_form : (d : Data) (u : Tree) → LeafReading leaves.Char u d → (c : ℕ) × (u ≡ nodes.Char c) × (IsScalar c × (d ≡ string (encode_utf8 c)))
 char_form d u ((c, is, scalar), h) = (c, is, (scalar, subst (λ z. IsLeafJson leaves.Char z d) is h))
 
@@ -78,6 +82,7 @@ char_form d u ((c, is, scalar), h) = (c, is, (scalar, subst (λ z. IsLeafJson le
 abbrev pub bytes_tree : List ℕ → Tree
 bytes_tree bytes = nodes.Seq (trees (map Byte bytes))
 
+-- JSON that denotes bytes is a string of their digits.
 pub bytes_form : (d : Data) (u : Tree) → LeafReading leaves.Bytes u d → (bytes : List ℕ) × (u ≡ bytes_tree bytes) × ((s : List ℕ) × (d ≡ string s) × (decode_of s ≡ Ok bytes))
 bytes_form d u ((ts, is, few, each), h) =
     let k = subst (λ z. IsLeafJson leaves.Bytes z d) is h in

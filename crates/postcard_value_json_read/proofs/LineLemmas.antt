@@ -2,10 +2,12 @@
 use Rattle.std.proofs.Common.{◌≡◌, ℕ, suc, ◌+◌, ◌-◌, ◌<◌, List, [], ◌∷◌, ◌++◌, ap, ◌∙◌, subst, append_assoc, arith}
 use Rattle.postcard_value_json_read.specs.Lines.{AreLines, IsLine}
 
+-- A line feed ends the line.
 pub line_ends : (b : ℕ) (left more rest : List ℕ) → IsLine more → b ∷ left ≡ more ++ 10 ∷ rest → b ≡ 10 → left ≡ rest
 line_ends b left [] rest line e is = cc
 line_ends b left (x ∷ xs) rest line e is = absurd (line.0 (cc))
 
+-- Another byte is one of the line, and the line goes on after it.
 pub line_goes_on : (b : ℕ) (left more rest : List ℕ) → IsLine more → b ∷ left ≡ more ++ 10 ∷ rest → (b ≡ 10 → ⊥) → (line : List ℕ) × IsLine line × (left ≡ line ++ 10 ∷ rest)
 line_goes_on b left [] rest line e other = absurd (other cc)
 line_goes_on b left (x ∷ xs) rest line e other = (xs, line.1, cc)

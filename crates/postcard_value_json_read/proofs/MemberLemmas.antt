@@ -118,6 +118,7 @@ pub record Finds (name key v found next : List ℕ) (is : Bool) : Type 0 where
   pub here : is ≡ true → next ≡ v
   pub kept : is ≡ false → next ≡ found
 
+-- If the key is the name, the value's place is kept.
 pub finds_here : (name key v found next : List ℕ) (is : Bool) → (is ≡ true → read key ≡ Some (string name)) → (is ≡ false → IsUtf8 key → read key ≡ Some (string name) → ⊥)
     → is ≡ true → next ≡ v → Finds name key v found next is
 finds_here name key v found next is named other known same = record { named = named; other = other; here = λ e. same; kept = λ other_one. absurd (true≢false (sym known ∙ other_one)) }
@@ -176,6 +177,7 @@ turn_after name text key a b v w x found next rest m after colon comma is k h f 
     let here : next ≡ rest = found_kept name key v found next is f got.0 ∙ same in
     (λ yes. inr (others_next name t after w x m others w_is (h.taken yes), here), λ no. here)
 
+-- One turn of the loop: after the key, the `:`, the value and the `,`, the same holds of the text that is left.
 pub turn : (name text key a b v w x found next rest : List ℕ) (colon comma is : Bool) → Key text key a b colon → Held b v w x comma → Finds name key v found next is
     → HasFound name text found rest → TurnEnds name x next rest comma
 turn name text key a b v w x found next rest colon comma is k h f (inl (zero, m, left, after, before, behind, at)) =
@@ -209,6 +211,7 @@ all_left P text rest none (front, is, whole) = by rest (ap length (sym none ∙ 
     by [] e = refl
     by (x ∷ xs) e = absurd (omega (arith, e))
 
+-- While a member is still ahead, the text doesn't end.
 pub ended : (name text found rest : List ℕ) → text ≡ [] → HasFound name text found rest → ⊥
 ended name text found rest none (inl (n, m, left, after, before, behind, at)) =
     let (t, members, more) = takes_split (AreMembers n) (Then (Led (IsNameText name)) (IsSign 58)) text left before in

@@ -56,6 +56,7 @@ led_front P text rest first (front, (blanks, phrase, blank, is, e), whole) =
     let all : text ≡ blanks ++ (phrase ++ rest) = whole ∙ ap (λ t. t ++ rest) e ∙ append_assoc blanks phrase rest in
     (phrase, is, ap unblank all ∙ unblank_more blanks (phrase ++ rest) blank ∙ first phrase rest is)
 
+-- A text that begins with a value has it after the blanks.
 pub value_front : (text rest : List ℕ) → TakesPhrase (Led IsValue) text rest → (value : List ℕ) × IsValue value × (unblank text ≡ value ++ rest)
 value_front text rest = led_front IsValue text rest value_first
 

@@ -62,10 +62,12 @@ pub member_found : (r : Option (Bor json.Value)) (name : List ℕ) (es : List En
 member_found None name es d one is found = tt
 member_found (Some f) name es d one is found = is ∙ only es name (view f.now) one (sym (found ∙ ap (get name) is))
 
+-- If no member is found, the JSON is no object with this member alone.
 pub no_member : (r : Option (Bor json.Value)) (name : List ℕ) (d : Data) → option_map (λ v. view v.now) r ≡ get name d → IfNone r ((e : Data) → d ≡ alone name e → ⊥)
 no_member (Some f) name d found = tt
 no_member None name d found = λ e is. absurd (cc (found ∙ ap (get name) is ∙ get_alone name e))
 
+-- If a member is found, the JSON is an object with this member alone.
 pub some_found : (r : Option (Bor json.Value)) (name : List ℕ) (d : Data) → is_some r ≡ true → IfSome r (λ f. d ≡ alone name (view f.now)) → (e : Data) × (d ≡ alone name e)
 some_found None name d e found = cc e
 some_found (Some f) name d e found = (view f.now, found)
@@ -90,6 +92,7 @@ content_unit n (tuple no_layouts) R d unit is = (refl, is)
 content_unit n (tuple (then_layout x xs)) R d unit is = cc unit
 content_unit n x R d unit is = cc unit
 
+-- The JSON of a variant whose content isn't the unit is an object of the name and the content.
 pub other_content : (n : List ℕ) (x : Layout) (R : Reading) (t : Tree) (d : Data) → is_unit x ≡ false → IsVariantJson n x R t d → (e : Data) × (d ≡ alone n e) × R t e
 other_content n (tuple no_layouts) R t d full h = cc full
 other_content n (tuple (then_layout x xs)) R t d full h = h
@@ -100,6 +103,7 @@ content_other n (tuple no_layouts) R t d e full is h = cc full
 content_other n (tuple (then_layout x xs)) R t d e full is h = (e, is, h)
 content_other n x R t d e full is h = (e, is, h)
 
+-- A string that is a variant's name denotes only that variant.
 pub unit_only : (n : List ℕ) (m : MessageType) (x : Layout) (d : Data) → is_unit x ≡ true → m ≡ group no_types → d ≡ string n
     → IsOnly (HasDistinctNames x) (IsContentReading n m x) (nodes.Group NoTrees) d
 unit_only n m x d unit is h = (
@@ -148,6 +152,7 @@ at_form [] i t d r h = absurd r
 at_form (n ∷ ns) zero t d r h = (n, omega arith, refl, (r, h))
 at_form (n ∷ ns) (suc i) t d r h = let k = at_form ns i t d r h in (k.0, omega (arith, k.1), k.2, k.3)
 
+-- JSON that denotes a value of an enum has the form of one of its variants.
 pub variant_form : (ns : List (Named Schema)) (u : Tree) (d : Data) → IsReading (choice (types_of (contents ns))) (layouts.choice (fields_of ns)) u d → VariantForm ns u d
 variant_form ns u d ((i, t, is, small, r), h) =
     let k = at_form ns i t d r (subst (λ z. IsChoiceJson (IsJsonAt (fields_of ns)) z d) is h) in
@@ -171,6 +176,7 @@ one_before (z ∷ ns) (suc i) (suc j) n m differ before low here there same = on
 abbrev pub IsFound : List (Named Schema) → ℕ → Data → Type 0
 IsFound ns k d = k < length ns → (n : Named Schema) × (n ≡ get_or ns k n) × IsNameIn (string_bytes n.name) d
 
+-- The JSON has the form of no variant before this index.
 abbrev pub IsFirst : List (Named Schema) → ℕ → Data → Type 0
 IsFirst ns k d = (j : ℕ) (n : Named Schema) → j < length ns → j < k → n ≡ get_or ns j n → (t : Tree) → IsJsonOfVariant n t d → ⊥
 
@@ -198,6 +204,7 @@ variant_by ns k n u d low here f at =
     let same : f.variant ≡ n = same_variant ns k n f.variant low here (subst (λ i. f.variant ≡ get_or ns i f.variant) (sym at) f.here) in
     subst (λ z. IsVariantReading z f.content d) same f.read
 
+-- The variant that was read is the only one that the JSON denotes.
 pub variant_only : (ns : List (Named Schema)) (k : ℕ) (n : Named Schema) (t : Tree) (d : Data) → k < 2 ^ 32 → k < length ns → n ≡ get_or ns k n → IsFound ns k d → IsFirst ns k d
     → IsOnly (HasDistinctNames (layout_of n.content)) (IsVariantReading n) t d
     → IsOnly (HasDistinctNames (layouts.choice (fields_of ns))) (IsReading (choice (types_of (contents ns))) (layouts.choice (fields_of ns))) (nodes.Variant k t) d

@@ -22,7 +22,7 @@ use Rattle.postcard_value_json_read.specs.Reading.{Reading, IsJsonOf, IsEntryJso
 abbrev pub entry_tree : Tree → Tree → Tree
 entry_tree key value = nodes.Group (Then key (Then value NoTrees))
 
--- The JSON is read by R as the tree, which is one of P.
+-- The JSON is read by R as the tree, and the tree is one of P.
 abbrev pub IsBoth : (Tree → Type 0) → Reading → Reading
 IsBoth P R t d = P t × R t d
 
@@ -34,7 +34,7 @@ IsReading m x = IsBoth (reads m) (IsJsonOf x)
 abbrev pub IsEntryReading : (key : MessageType) → Layout → (value : MessageType) → Layout → Reading
 IsEntryReading k x v y = IsBoth (reads (entry_of k v)) (IsEntryJson (IsJsonOf x) (IsJsonOf y))
 
--- The JSON is an array of two items, of which the one at this index is read as the tree.
+-- The JSON is an array of two items. The one at this index is read as the tree.
 abbrev pub IsHalfReading : ℕ → MessageType → Layout → Reading
 IsHalfReading half m x t d = (ds : Items) × (d ≡ values.array ds) × (items_len ds ≡ 2) × (e : Data) × (get_item half ds ≡ Some e) × IsReading m x t e
 
@@ -62,12 +62,11 @@ IsJsonOfVariant n t d = IsVariantJson (string_bytes n.name) (layout_of n.content
 abbrev pub IsNameIn : List ℕ → Data → Type 0
 IsNameIn n d = (d ≡ string n) ⊎ ((e : Data) × (d ≡ alone n e))
 
--- What d denotes by R, where R relates what is read and JSON: t, and, if the condition D holds, nothing else.
+-- R relates what is read and JSON. The JSON d denotes t by R and, if the condition D holds, nothing else.
 abbrev pub IsOnly : {T J : Type 0} → Type 0 → (T → J → Type 0) → T → J → Type 0
 IsOnly D R t d = R t d × (D → (u : _) → R u d → u ≡ t)
 
--- The result has what d denotes by R, or is an error. If the condition D holds, it is an error other than of memory only if d denotes
--- nothing.
+-- The result has what d denotes by R, or is an error. If the condition D holds, and the error isn't `OutOfMemory`, d denotes nothing.
 abbrev pub Answers : {V T J : Type 0} → Type 0 → (V → T) → (T → J → Type 0) → J → Result V JsonError → Type 0
 Answers D see R d r = MatchResult r (λ v. IsOnly D R (see v) d) (λ e. D → (u : _) → R u d → e ≡ OutOfMemory)
 

@@ -1,5 +1,5 @@
--- How a path leads from the text of JSON to the text of a part, by the signs alone. Blanks, the white space of ASCII, may come before
--- each value, name and sign.
+-- How a path leads from a JSON text to the text of a part, by the signs of the text alone. Blanks, the white space of ASCII, may come
+-- before each value, name and sign.
 use Rattle.std.specs.Prelude.{◌≡◌, ℕ, zero, suc, List, [], ◌∷◌, Some, IsUtf8}
 use Rattle.postcard_schema.specs.Paths.{PlainStep, at_each, at_element, at_name, at_part}
 use Rattle.postcard_schema_text.specs.Text.{Led, Then, TakesPhrase, IsSign, unblank}

@@ -22,7 +22,7 @@ abbrev pub IsAt : List PlainStep → Expected → JsonError → Type 0
 IsAt steps expected (NotAValue path what) = (plain_path path ≡ steps) × (what ≡ expected)
 IsAt steps expected OutOfMemory = ⊥
 
--- The second error is the first one of a part, as that of the whole, from which the step leads to the part; or memory is lacking.
+-- The second error is that of the whole, for the first error in a part: the step leads from the whole to the part. Or an allocation failed.
 abbrev pub IsWithin : PlainStep → JsonError → JsonError → Type 0
 IsWithin step (NotAValue path expected) e = (e ≡ OutOfMemory) ⊎ IsAt (step ∷ plain_path path) expected e
 IsWithin step OutOfMemory e = e ≡ OutOfMemory
@@ -42,7 +42,7 @@ IsLengthError ns d (NotAValue path places.Present) = IsMissing ns d (plain_path 
 IsLengthError ns d (NotAValue path places.Absent) = HasFields ns d
 IsLengthError ns d e = Unit {0}
 
--- This is expected, unless memory is lacking.
+-- This is expected, if no allocation failed.
 abbrev pub IsExpected : Expected → JsonError → Type 0
 IsExpected expected (NotAValue path what) = what ≡ expected
 IsExpected expected OutOfMemory = Unit {0}
@@ -52,12 +52,12 @@ abbrev pub IsPlaceIn : List ℕ → JsonTextError → Type 0
 IsPlaceIn text (text_errors.NotAValue character path expected) = (1 ≤ character) × (character ≤ characters text + 1)
 IsPlaceIn text text_errors.OutOfMemory = Unit {0}
 
--- The place is that of the character after n others, unless memory is lacking.
+-- The place is that of the character after n others, if no allocation failed.
 abbrev pub IsPlaceAfter : ℕ → JsonTextError → Type 0
 IsPlaceAfter n (text_errors.NotAValue character path expected) = character ≡ n + 1
 IsPlaceAfter n text_errors.OutOfMemory = Unit {0}
 
--- The path has this text, and this is expected there, unless memory is lacking.
+-- The path has this text, and this is expected there, if no allocation failed.
 abbrev pub HasPath : List ℕ → Expected → JsonTextError → Type 0
 HasPath text expected (text_errors.NotAValue character path what) = (string_bytes path ≡ text) × (what ≡ expected)
 HasPath text expected text_errors.OutOfMemory = Unit {0}

@@ -1,5 +1,5 @@
--- Which JSON is read as a tree of a type with names: what `json_of` gives, and other forms of numbers, of byte strings and of
--- floats. Members may stand in any order.
+-- Which JSON is read as a tree of a type with names. It is what `json_of` gives, and other forms of numbers, byte strings and floats.
+-- Members may stand in any order.
 use Rattle.std.specs.Prelude.{◌≡◌, ℕ, zero, suc, ◌<◌, ◌^◌, ℤ, pos, Bool, true, false, List, map, codes, Some, Ok, to_bits}
 use Rattle.std.specs.Char.{encode_utf8}
 use Rattle.std.specs.Float.{Float, binary32, binary64, round_to_format}
@@ -77,7 +77,7 @@ IsLeafJson l t d = ⊥
 abbrev pub Reading : Type 1
 Reading = Tree → Data → Type 0
 
--- An option: `null`, or its content, which stands in an object `{"Some": ..}` if it may itself be `null`.
+-- An option: `null`, or its content. If the content's JSON may be `null`, it stands in an object `{"Some": ..}`.
 abbrev pub IsOptionJson : Bool → Reading → Reading
 IsOptionJson nullable R nodes.Absent d = d ≡ null
 IsOptionJson true R (nodes.Present t) d = (e : Data) × (d ≡ alone (codes "Some") e) × R t e

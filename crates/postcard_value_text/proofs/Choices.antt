@@ -28,6 +28,7 @@ use Rattle.postcard_value_text.proofs.Signs.{none_taken}
 
 -- ---- parentheses
 
+-- The text is that of a value in `(` and `)`.
 abbrev pub InParentheses : Speller → Speller
 InParentheses S t = Then (IsSign 40) (Then (S t) (IsSign 41))
 
@@ -263,6 +264,7 @@ same_variant ns k n u here low is = is ∙ get_or_default ns k u n low ∙ sym h
 abbrev pub ReadsChoice : List (Named Schema) → List ℕ → Result Value Stop → List ℕ → Type 0
 ReadsChoice ns = ReadsTree (NamesDiffer (fields_of ns) × AreNamed (fields_of ns)) (IsVariant (reads_at (types_of (contents ns)))) (SpellsChoice (SpellsAt (fields_of ns)))
 
+-- What reading the content of a variant promises.
 abbrev pub ReadsContent : Schema → List ℕ → Result Value Stop → List ℕ → Type 0
 ReadsContent s = ReadsTree (HasDistinctNames (layout_of s)) (reads (type_of s)) (SpellsContent (layout_of s) (SpellsTree (layout_of s)))
 

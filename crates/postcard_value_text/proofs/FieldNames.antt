@@ -1,5 +1,5 @@
--- The name of a field in a text: it stands as a word, `label`, or between double quotes, `"label"`. The lemmas say that both forms may have
--- blanks before them, and that only one of them can stand at one place, with one remaining text after it.
+-- The name of a field in a text: it stands as a word, `label`, or between double quotes, `"label"`. Both forms may have blanks before them.
+-- Only one of them can stand at one place, and one text remains after it.
 use Rattle.std.proofs.Common.{◌≡◌, ◌≢◌, ℕ, ◌<◌, Bor, List, [], ◌∷◌, ◌++◌, length, refl, sym, ap, ◌∙◌, true≢false, arith, ◌⊎◌, inl, inr}
 use Rattle.std.specs.Prelude.{Option, Some, None, IfSome, IfNone, MatchOption}
 use Rattle.std.proofs.lemmas.List.{append_assoc}
@@ -51,6 +51,7 @@ cancel : (p x y : List ℕ) → p ++ x ≡ p ++ y → x ≡ y
 cancel [] x y e = e
 cancel (z ∷ p) x y e = cancel p x y (same_rest e)
 
+-- A text has one remaining text after the name and the quote.
 pub same_left : (name x y m : List ℕ) → m ≡ name ++ 34 ∷ x → m ≡ name ++ 34 ∷ y → x ≡ y
 same_left name x y m e f = same_rest (cancel name (34 ∷ x) (34 ∷ y) (sym e ∙ f))
 
@@ -71,6 +72,7 @@ pub quote_found : (text name x : List ℕ) (r : Option (Bor (List ℕ))) → tex
 quote_found text name x None e m = tt
 quote_found text name x (Some y) e m = e ∙ ap (λ t. name ++ t) m
 
+-- If no quote follows the name, the text doesn't begin with the name and a quote.
 pub quote_none : (text name x : List ℕ) (r : Option (Bor (List ℕ))) → text ≡ name ++ x → MatchOption r ((rest : List ℕ) → x ≢ (34 ∷ []) ++ rest) (λ y. x ≡ (34 ∷ []) ++ y.now)
     → IfNone r ((after : List ℕ) → text ≡ name ++ 34 ∷ after → ⊥)
 quote_none text name x None e m = λ after is. m after (cancel name x (34 ∷ after) (sym e ∙ is))

@@ -1,4 +1,4 @@
--- Which float is at the start of a text.
+-- Lemmas on the float at the start of a text: which bytes it takes, and that no other float is there.
 use Rattle.std.proofs.Common.{◌≡◌, ℕ, ◌+◌, ◌<◌, ◌^◌, Bool, true, false, ◌||◌, ◌&&◌, List, [], ◌∷◌, ◌++◌, length, get_or, Some, codes, refl, sym, ap, subst, ◌∙◌, true≢false, arith, ◌⊎◌, inl, inr}
 use Rattle.std.proofs.lemmas.Bool.Decides.{nat_tests}
 use Rattle.std.proofs.lemmas.List.{append_assoc}
@@ -133,6 +133,7 @@ first_word : (w r : List ℕ) → AllPass is_of_float w → 0 < length w → unb
 first_word [] r pass some = absurd (omega (arith, some))
 first_word (x ∷ w) r pass some = unblank_black x (w ++ r) (black x (pass_head is_of_float x w pass))
 
+-- The text begins with a number's word, which denotes the bits.
 pub record NumberFirst (f : Format) (bits : ℕ) (text rest : List ℕ) : Type 0 where
   pub word : List ℕ
   pub reads : IsFloatWord f bits word
@@ -145,6 +146,7 @@ number_first f bits text rest (front, (blanks, word, blank, reads, e), whole) =
     let all : text ≡ blanks ++ (word ++ rest) = whole ∙ ap (λ t. t ++ rest) e ∙ append_assoc blanks word rest in
     record { word = word; reads = reads; all = k.1; first = ap unblank all ∙ unblank_more blanks (word ++ rest) blank ∙ first_word word rest k.1 k.0 }
 
+-- The text begins with `nan` and the bits of a NaN in parentheses.
 pub record NanFirst (bits : ℕ) (text rest : List ℕ) : Type 0 where
   pub back : List ℕ
   pub first : unblank text ≡ codes "nan" ++ back
@@ -189,6 +191,7 @@ pub record CodeFound (n : ℕ) (word left after : List ℕ) : Type 0 where
   pub is : word ≡ 48 ∷ 120 ∷ digits
   pub close : TakesPhrase (IsSign 41) left after
 
+-- The word that was taken is the bits, after `0x`.
 pub code_found : (n : ℕ) (text word left after : List ℕ) → TakesPhrase (IsWord word) text left → ((trimmed : List ℕ) × IsTrimAsciiStart text trimmed × (trimmed ≡ word ++ left)) → EndsWord left
     → TakesPhrase (Then (IsHexadecimal n) (IsSign 41)) text after → CodeFound n word left after
 code_found n text word left after taken first over h =
@@ -263,5 +266,6 @@ parsed_number f bits word left after (inr (are, is, (mid, taken, code))) none = 
 float_ascii : (b : ℕ) → is_of_float b ≡ true → b < 128
 float_ascii b h = grind (arith, nat_tests, h)
 
+-- A word of the bytes of numbers is UTF-8.
 pub number_utf8 : (word : List ℕ) → AllPass is_of_float word → IsUtf8 word
 number_utf8 word pass = IsUtf8-from_ascii word (IsAscii-from_all word (λ k d inside. float_ascii (get_or word k d) (pass k d inside)))

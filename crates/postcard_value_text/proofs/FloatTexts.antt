@@ -120,9 +120,11 @@ plain_sign sign = ([], sign ∷ [], no_blanks, refl, refl)
 nan_of_word : AllPass is_of_word (codes "nan")
 nan_of_word = pass_cons is_of_word 110 (97 ∷ 110 ∷ []) refl (pass_cons is_of_word 97 (110 ∷ []) refl (pass_cons is_of_word 110 [] refl (pass_none is_of_word)))
 
+-- `nan` denotes the bits of `f32::NAN`.
 pub usual_32 : (bits : ℕ) → bits ≡ 0x7fc0_0000 → SpellsFloat binary32 bits (codes "nan")
 usual_32 bits is = word_spells binary32 bits nan (codes "nan") (nan_reads binary32) (is ∙ sym nan_32)
 
+-- `nan` denotes the bits of `f64::NAN`.
 pub usual_64 : (bits : ℕ) → bits ≡ 0x7ff8_0000_0000_0000 → SpellsFloat binary64 bits (codes "nan")
 usual_64 bits is = word_spells binary64 bits nan (codes "nan") (nan_reads binary64) (is ∙ sym nan_64)
 

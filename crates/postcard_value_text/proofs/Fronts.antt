@@ -30,6 +30,7 @@ follows_other b h = grind (arith, nat_tests, h)
 blank_other : (b : ℕ) → is_ascii_whitespace b ≡ true → is_of_float b ≡ false
 blank_other b h = grind (arith, nat_tests, h)
 
+-- What may follow a value doesn't go on with a number.
 pub goes_number : (a : List ℕ) → FollowsValue a → EndsNumber a
 goes_number [] goes = tt
 goes_number (b ∷ a) (inl blank) = blank_other b (pass_head is_ascii_whitespace b a blank)
@@ -40,9 +41,11 @@ goes_number (b ∷ a) (inr (sign, after, pass, (front, (x ∷ blanks, phrase, bl
     let first : b ≡ x = same_first (whole ∙ ap (λ t. t ++ after) e) in
     rw first (blank_other x (pass_head is_ascii_whitespace x blanks blank))
 
+-- What may follow a value doesn't go on with a word.
 pub goes_word : (a : List ℕ) → FollowsValue a → EndsWord a
 goes_word a goes = goes_ends_word a (goes_variant a goes)
 
+-- What may follow a value doesn't go on with a float.
 pub goes_float : (a : List ℕ) → FollowsValue a → EndsFloat a
 goes_float a goes = (goes_number a goes, λ after h. not_next_type 40 a after refl refl goes h)
 
@@ -79,6 +82,7 @@ scalar_after_blanks P a after each (front, (blanks, word, blank, p, e), whole) =
     let all : a ≡ blanks ++ (word ++ after) = whole ∙ ap (λ t. t ++ after) e ∙ append_assoc blanks word after in
     (word, p, k.0, k.1, ap unblank all ∙ unblank_more blanks (word ++ after) blank ∙ scalar_first word after k.1 k.0)
 
+-- A number or a `bool` that begins a text is its next word.
 pub scalar_front : (P : Phrase) (a b after : List ℕ) → AreScalars P → IsTrimAsciiStart a b → TakesPhrase (Led P) a after → ScalarFront P b after
 scalar_front P a b after each trim h =
     let k = scalar_after_blanks P a after each h in

@@ -112,32 +112,40 @@ module _ {A : Type 0} {N : Type 0} (R : A → Tree → Type 0) (S : A → Spelle
 
 -- ---- tuples and structs
 
+-- The trees of a part's type.
 abbrev pub part_reads : Schema → Tree → Type 0
 part_reads s = reads (type_of s)
 
+-- Which texts denote a part.
 abbrev pub part_spells : Schema → Speller
 part_spells s = SpellsTree (layout_of s)
 
+-- The trees of a field's type.
 abbrev pub field_reads : Named Schema → Tree → Type 0
 field_reads n = reads (type_of n.content)
 
+-- Which texts denote a field: its name, `:` and its value.
 abbrev pub field_spells : Named Schema → Speller
 field_spells n = SpellsField (string_bytes n.name) (SpellsTree (layout_of n.content))
 
+-- The trees of the parts in a row are those of the row of their types.
 pub part_sets : (ss : List Schema) → AllAre part_reads ss ≡ reads_all (types_of ss)
 part_sets [] = refl
 part_sets (s ∷ ss) = ap (IsThen (reads (type_of s))) (part_sets ss)
 
+-- The texts of the parts in a row are those of the tuple's parts.
 pub same_parts : (ss : List Schema) (ts : Trees) → phrases_by part_spells ss ts ≡ part_phrases (layouts_of ss) ts
 same_parts [] NoTrees = refl
 same_parts [] (nodes.Then t ts) = refl
 same_parts (s ∷ ss) NoTrees = refl
 same_parts (s ∷ ss) (nodes.Then t ts) = ap (λ Ps. SpellsTree (layout_of s) t ∷ Ps) (same_parts ss ts)
 
+-- The trees of the fields in a row are those of the row of their types.
 pub field_sets : (ns : List (Named Schema)) → AllAre field_reads ns ≡ reads_all (types_of (contents ns))
 field_sets [] = refl
 field_sets (n ∷ ns) = ap (IsThen (reads (type_of n.content))) (field_sets ns)
 
+-- The texts of the fields in a row are those of the struct's fields.
 pub same_fields : (ns : List (Named Schema)) (ts : Trees) → phrases_by field_spells ns ts ≡ field_phrases (fields_of ns) ts
 same_fields [] NoTrees = refl
 same_fields [] (nodes.Then t ts) = refl
@@ -196,12 +204,14 @@ IsEntry K V = IsGroup (IsThen K (IsThen V IsEnd))
 abbrev pub entry_names : Schema → Schema → Type 0
 entry_names x y = HasDistinctNames (layout_of x) × HasDistinctNames (layout_of y)
 
+-- The trees of an entry of a map.
 abbrev pub entry_reads : Schema → Schema → Tree → Type 0
 entry_reads x y = IsEntry (reads (type_of x)) (reads (type_of y))
 
 abbrev pub entry_spells : Schema → Schema → Speller
 entry_spells x y = SpellsEntry (SpellsTree (layout_of x)) (SpellsTree (layout_of y))
 
+-- The sign between a key and its value: `=>`.
 abbrev pub IsArrow : Phrase
 IsArrow = Then (IsSign 61) (IsSign 62)
 

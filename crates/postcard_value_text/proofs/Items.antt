@@ -114,6 +114,7 @@ next_follows closing Ps b r is (inr (c, comma, left)) = sign_follows 44 b c refl
 pub Opens : Speller → Type 0
 Opens S = (t : Tree) (a r : List ℕ) → TakesPhrase (S t) a r → Starts begins_value a
 
+-- A text of a value begins with one of the bytes that begin values.
 pub opens : (S : Speller) → ((t : Tree) (a r : List ℕ) → TakesPhrase (S t) a r → Starts begins_value a) → Opens S
 unfolding Opens
 opens S f = f

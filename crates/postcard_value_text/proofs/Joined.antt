@@ -25,6 +25,7 @@ followed_more b [] x = ap (λ o. Some b ++? o) (none_after x) ∙ sym (none_befo
 followed_more b (y ∷ ys) x =
     ap (λ o. Some b ++? (y ++? o)) (followed_more b ys x) ∙ sym (then_text_assoc (Some b) (y ++? each_after b ys) (Some b ++? x) ∙ ap (λ o. Some b ++? o) (then_text_assoc y (each_after b ys) (Some b ++? x)))
 
+-- One text more in a row: the separator, but not before the first, and the text.
 pub joined_more : (b : List ℕ) (xs : List (Option (List ℕ))) (x : Option (List ℕ)) → joined b (xs ++ x ∷ []) ≡ joined b xs ++? (Some (lead (length xs) b) ++? x)
 joined_more b [] x = none_after x ∙ sym (none_before (Some [] ++? x) ∙ none_before x)
 joined_more b (y ∷ ys) x = ap (λ o. y ++? o) (followed_more b ys x) ∙ sym (then_text_assoc y (each_after b ys) (Some b ++? x))
@@ -102,6 +103,7 @@ hexadecimal_next (c ∷ bs) zero low = append-nil (digits_of c)
 hexadecimal_next (c ∷ bs) (suc i) low =
     ap (λ t. digits_of c ++ t) (hexadecimal_next bs i (omega (arith, low))) ∙ sym (append_assoc (digits_of c) (hexadecimal (trees (map Byte (take i bs)))) (digits_of (get_or bs i 0)))
 
+-- One byte more adds its two digits.
 pub hexadecimal_more : (bs : List ℕ) (i : ℕ) → i < length bs
     → hexadecimal (trees (map Byte (take (i + 1) bs))) ≡ hexadecimal (trees (map Byte (take i bs))) ++ (digits 16 false (get_or bs i 0 / 16) ++ digits 16 false (get_or bs i 0 % 16))
 hexadecimal_more bs i low = rw (add-one i) (hexadecimal_next bs i low)

@@ -51,6 +51,7 @@ layout_of_enum v = search (rules, the_lemmas, named_layouts)
 abbrev pub printer_of : Schema → Printer
 printer_of s = text (layout_of s)
 
+-- The printer of a field: its name, `: ` and its value.
 abbrev pub field_printer : Named Schema → Printer
 field_printer n = field_text (string_bytes n.name) (text (layout_of n.content))
 
@@ -68,6 +69,7 @@ pub tuple_more : {X : Type 0} (b : List ℕ) (see : X → Tree) (ss : List Schem
     → joined b (each_by (texts (layouts_of ss)) (trees (map see (take (i + 1) vs)))) ≡ joined b (each_by (texts (layouts_of ss)) (trees (map see (take i vs)))) ++? (Some (lead i b) ++? printer_of s (see v))
 tuple_more b see ss vs i s v few low is here = rw (texts_map ss) (parts_more b printer_of see ss vs i s v few low is here)
 
+-- One field more in the text of a struct.
 pub struct_more : {X : Type 0} (b : List ℕ) (see : X → Tree) (ns : List (Named Schema)) (vs : List X) (i : ℕ) (n : Named Schema) (v : X) → i < length ns → i < length vs
     → n ≡ get_or ns i n → v ≡ get_or vs i v
     → joined b (each_by (field_texts (fields_of ns)) (trees (map see (take (i + 1) vs)))) ≡ joined b (each_by (field_texts (fields_of ns)) (trees (map see (take i vs)))) ++? (Some (lead i b) ++? field_printer n (see v))
@@ -102,6 +104,7 @@ ends_other (s ∷ u ∷ ss) e = refl
 pub content_brackets : (x : Layout) (p : Printer) (t : Tree) → is_unit x ≡ false → has_brackets x ≡ true → content_text x p t ≡ p t
 content_brackets x p t full own = rw (full, own) refl
 
+-- A content that is neither the unit nor has brackets is printed in parentheses.
 pub content_other : (x : Layout) (p : Printer) (t : Tree) → is_unit x ≡ false → has_brackets x ≡ false → content_text x p t ≡ enclosed (40 ∷ []) (p t) (41 ∷ [])
 content_other x p t full other = rw (full, other) refl
 

@@ -1,4 +1,4 @@
--- The value without parts that is at the start of a text.
+-- Lemmas on the value without parts at the start of a text: a text that denotes a tree of its type begins with it.
 use Rattle.std.proofs.Common.{◌≡◌, ℕ, Bool, true, false, List, [], ◌++◌, map, refl, sym, ap, subst, ◌∙◌}
 use Rattle.std.specs.Char.{encode_utf8, IsScalar}
 use Rattle.std.specs.Str.{IsTrimAsciiStart, IsUtf8}
@@ -31,6 +31,7 @@ one_truth false false word a b = refl
 pub one_character : (c d : ℕ) → encode_utf8 c ≡ encode_utf8 d → c ≡ d
 one_character c d e = (encode_same c d [] [] (ap (λ t. t ++ []) e)).0
 
+-- A text that begins with a tree of `bool` begins with `true` or `false`.
 pub truth_front : (t : Tree) (a b r : List ℕ) → IsTrimAsciiStart a b → IsBoolean t → TakesPhrase (SpellsLeaf leaves.Bool t) a r → (x : Bool) × (t ≡ Boolean x) × TakesPhrase (Led (IsTruth x)) b r
 truth_front t a b r trim (x, is) h = (x, is, scalar_trimmed (IsTruth x) a b r (truth_scalars x) trim (subst (λ s. TakesPhrase (SpellsLeaf leaves.Bool s) a r) is h))
 
@@ -44,12 +45,15 @@ pub float_front : (f : Float) (t : Tree) (a b r : List ℕ) → IsTrimAsciiStart
     → (n : ℕ) × (t ≡ fixed_tree Little (float_size f) n) × TakesPhrase (SpellsFloat (format_of f) n) b r
 float_front f t a b r trim (front, (n, is, h), whole) = (n, is, float_trimmed (format_of f) n a b r trim (front, h, whole))
 
+-- A text that begins with a tree of `char` begins with that character in single quotes.
 pub char_front : (t : Tree) (a b r : List ℕ) → IsTrimAsciiStart a b → IsChar t → TakesPhrase (SpellsLeaf leaves.Char t) a r → (c : ℕ) × (t ≡ nodes.Char c) × IsScalar c × TakesPhrase (IsQuoted 39 (encode_utf8 c)) b r
 char_front t a b r trim (c, is, scalar) h = (c, is, scalar, quoted_trimmed 39 (encode_utf8 c) a b r refl trim (subst (λ s. TakesPhrase (SpellsLeaf leaves.Char s) a r) is h))
 
+-- A text that begins with a tree of `str` begins with that string in double quotes.
 pub text_front : (t : Tree) (a b r : List ℕ) → IsTrimAsciiStart a b → IsText t → TakesPhrase (SpellsLeaf leaves.Str t) a r → (u : List ℕ) × (t ≡ Text u) × IsUtf8 u × TakesPhrase (IsQuoted 34 u) b r
 text_front t a b r trim (u, is, utf8, few) h = (u, is, utf8, quoted_trimmed 34 u a b r refl trim (subst (λ s. TakesPhrase (SpellsLeaf leaves.Str s) a r) is h))
 
+-- A text that begins with a tree of `bytes` begins with their digits.
 pub bytes_front : (t : Tree) (a b r : List ℕ) → IsTrimAsciiStart a b → IsSeq IsByte t → TakesPhrase (SpellsLeaf leaves.Bytes t) a r → (bytes : List ℕ) × (t ≡ nodes.Seq (trees (map Byte bytes))) × TakesPhrase (IsByteString bytes) b r
 bytes_front t a b r trim (ts, is, few, each) h = by (subst (λ s. TakesPhrase (SpellsLeaf leaves.Bytes s) a r) is h)
   where

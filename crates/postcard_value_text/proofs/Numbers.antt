@@ -24,11 +24,13 @@ no_literal TooLarge text (m, is, large) n low h = let same = one_literal m n tex
 pub one_unsigned : (n m : ℕ) (text : List ℕ) → IsUnsigned n text → IsUnsigned m text → n ≡ m
 one_unsigned n m text a b = one_literal n m (without_leading_plus text) a b
 
+-- A text denotes at most one signed number.
 pub one_signed : (y z : ℤ) (text : List ℕ) → IsSigned y text → IsSigned z text → y ≡ z
 one_signed y z text (n, a, e) (m, b, f) =
     let same = one_literal n m (without_leading_sign text) a b in
     e ∙ ap (λ k. cond (starts_with_minus text) (neg_ℤ (pos k)) (pos k)) same ∙ sym f
 
+-- A text denotes at most one pattern of bits of a type.
 pub one_bits : (signed : Bool) (i : Integer) (m n : ℕ) (text : List ℕ) → HasBits signed i m text → HasBits signed i n text → m ≡ n
 one_bits true i m n text (y, a, h) (z, b, k) = same_bits i y z m n (one_signed y z text h k) a b
 one_bits false i m n text (low, h) (high, k) = one_unsigned m n text h k
@@ -38,15 +40,18 @@ pub signed_found : (i : Integer) (text : List ℕ) (z : ℤ) (r : Option ℕ) �
 signed_found i text z None is h = tt
 signed_found i text z (Some n) is h = (z, h, is)
 
+-- If the number that a text denotes has no bits of the type, the text denotes no bits of the type.
 pub signed_refused : (i : Integer) (text : List ℕ) (z : ℤ) (r : Option ℕ) → IsSigned z text → IfNone r ((n : ℕ) → IsBitsOf i z n → ⊥) → IfNone r ((n : ℕ) → HasBits true i n text → ⊥)
 signed_refused i text z None is h = λ n (y, bits, k). h n (subst (λ x. IsBitsOf i x n) (one_signed y z text k is) bits)
 signed_refused i text z (Some n) is h = tt
 
 -- ---- signs
 
+-- A word without its leading `+` is what follows it.
 pub plus_taken : (word rest : List ℕ) → word ≡ codes "+" ++ rest → without_leading_plus word ≡ rest
 plus_taken word rest e = rw e refl
 
+-- A word that doesn't begin with `+` has none to strip.
 pub plus_none : (word : List ℕ) → ((rest : List ℕ) → word ≢ codes "+" ++ rest) → without_leading_plus word ≡ word
 plus_none [] none = without_leading_plus_none [] (λ e. omega (arith, e))
 plus_none (c ∷ cs) none = without_leading_plus_none (c ∷ cs) (λ e. none cs (ap (λ x. x ∷ cs) e))
@@ -74,6 +79,7 @@ SignedBy f digits z = (n : ℕ) × (n < 2 ^ 128) × IsLiteral n digits × (z ≡
 abbrev pub minus : ℕ → ℤ
 minus n = neg_ℤ (pos n)
 
+-- A word that begins with `-` and denotes z has a literal of the magnitude of z after the `-`.
 pub minus_spelled : (word rest : List ℕ) (z : ℤ) → word ≡ codes "-" ++ rest → FitsSigned w128 z → IsSigned z word → SignedBy minus rest z
 minus_spelled word rest z e fits (n, is, same) =
     let k = minus_taken word rest e in
@@ -83,12 +89,14 @@ minus_spelled word rest z e fits (n, is, same) =
 plain_sign : (word : List ℕ) → starts_with_minus word ≡ false → without_leading_sign word ≡ without_leading_plus word
 plain_sign word e = ap (λ b. cond b (drop 1 word) (without_leading_plus word)) e
 
+-- A word that doesn't begin with `-` and denotes z is a literal of z, perhaps after a `+`.
 pub plain_spelled : (word : List ℕ) (z : ℤ) → ((rest : List ℕ) → word ≢ codes "-" ++ rest) → FitsSigned w128 z → IsSigned z word → SignedBy pos (without_leading_plus word) z
 plain_spelled word z none fits (n, is, same) =
     let k = minus_none word none in
     let value : z ≡ pos n = same ∙ ap (λ b. cond b (minus n) (pos n)) k in
     (n, pos_small n (subst (FitsSigned w128) value fits), subst (IsLiteral n) (plain_sign word k) is, value)
 
+-- A literal after `-` denotes the negative of its number.
 pub minus_found : (word rest : List ℕ) (n : ℕ) (r : Option ℤ) (z : ℤ) → word ≡ codes "-" ++ rest → IsLiteral n rest → SomeIff r (FitsSigned w128 z) z → z ≡ minus n → IfSome r (λ y. IsSigned y word)
 minus_found word rest n None z e is some same = tt
 minus_found word rest n (Some x) z e is (fits, eq) same =

@@ -38,6 +38,6 @@ plain_bytes (c ∷ text) all =
       ap (λ (x : List ℕ). x ++ flat_map (debug_escape 34) text) first.1 ∙ ap (λ (x : List ℕ). c ∷ x) rest.1,
     )
 
--- A text of characters that stand for themselves is printed as it is between double quotes.
+-- A string of characters that stand for themselves is printed unchanged between double quotes.
 pub plain_text : (text : List ℕ) → list_all stands_for_itself text ≡ true → debug_str text ≡ Some (34 ∷ (text ++ 34 ∷ []))
 plain_text text all = let is = plain_bytes text all in rw (is.0, is.1) refl

@@ -22,6 +22,7 @@ pub record PiecesLeft (quote : ℕ) (done held a r : List ℕ) : Type 0 where
 end_taken : (quote : ℕ) (b r : List ℕ) → TakesPhrase (λ end. end ≡ quote ∷ []) b r → b ≡ quote ∷ r
 end_taken quote b r (front, is, whole) = whole ∙ ap (λ t. t ++ r) is
 
+-- After the first quote, all pieces are left.
 pub pieces_begin : (quote : ℕ) (done held a b r : List ℕ) → is_ascii_whitespace quote ≡ false → done ≡ [] → TakesPhrase (IsSign quote) a b → TakesPhrase (IsQuoted quote held) a r → PiecesLeft quote done held b r
 pieces_begin quote done held a b r black none sign h =
     let one = takes_split (IsSign quote) (Then (ArePieces quote held) (λ end. end ≡ quote ∷ [])) a r h in
@@ -94,6 +95,7 @@ pieces_next quote byte done held a r h = by h.more h.each h.whole h.left
           ))
         ]
 
+-- Where a quote is next, no piece is left.
 pub pieces_quote : (quote : ℕ) (done held a b r : List ℕ) → quote ≢ 92 → PiecesLeft quote done held a r → a ≡ quote ∷ b → (held ≡ done) × (b ≡ r)
 unfolding Next
 pieces_quote quote done held a b r differs h first = elim (pieces_next quote quote done held b r (subst (λ t. PiecesLeft quote done held t r) first h)) [
@@ -102,6 +104,7 @@ pieces_quote quote done held a b r differs h first = elim (pieces_next quote quo
   | inr (inr k) ↦ absurd (differs k.0)
 ]
 
+-- Where a byte other than the quote and `\` is next, it stands for itself.
 pub pieces_plain : (quote byte : ℕ) (done held a b r : List ℕ) → PiecesLeft quote done held a r → a ≡ byte ∷ b → byte ≢ quote → byte ≢ 92 → PiecesLeft quote (done ++ byte ∷ []) held b r
 unfolding Next
 pieces_plain quote byte done held a b r h first other plain = elim (pieces_next quote byte done held b r (subst (λ t. PiecesLeft quote done held t r) first h)) [
@@ -110,12 +113,14 @@ pieces_plain quote byte done held a b r h first other plain = elim (pieces_next 
   | inr (inr k) ↦ absurd (plain k.0)
 ]
 
+-- What is left after a `\`: an escape, and then the other pieces.
 pub record EscapeLeft (quote : ℕ) (done held b r : List ℕ) : Type 0 where
   pub bytes : List ℕ
   pub after : List ℕ
   pub taken : TakesPhrase (IsEscape bytes) b after
   pub left : PiecesLeft quote (done ++ bytes) held after r
 
+-- Where a `\` is next, an escape is left.
 pub pieces_escape : (quote : ℕ) (done held a b r : List ℕ) → quote ≢ 92 → PiecesLeft quote done held a r → a ≡ 92 ∷ b → EscapeLeft quote done held b r
 unfolding Next
 pieces_escape quote done held a b r differs h first = elim (pieces_next quote 92 done held b r (subst (λ t. PiecesLeft quote done held t r) first h)) [
@@ -157,6 +162,7 @@ pub record CodeEscape (held b r : List ℕ) : Type 0 where
   pub taken : TakesPhrase (IsCode character) b r
   pub is : held ≡ encode_utf8 character
 
+-- After a `u`, the escape is a code.
 pub code_of : (held a b r : List ℕ) → TakesPhrase (IsEscape held) a r → a ≡ 117 ∷ b → CodeEscape held b r
 code_of held a b r (front, inl (letter, byte, stands, is, e), whole) first =
     let same : letter ≡ 117 = same_first (sym (ap (λ t. t ++ r) e) ∙ sym whole ∙ first) in
@@ -171,6 +177,7 @@ pub record LetterEscape (letter : ℕ) (held b r : List ℕ) : Type 0 where
   pub is : held ≡ byte ∷ []
   pub left : b ≡ r
 
+-- After a letter other than `u`, the escape is the byte of that letter.
 pub letter_of : (letter : ℕ) (held a b r : List ℕ) → TakesPhrase (IsEscape held) a r → a ≡ letter ∷ b → letter ≢ 117 → LetterEscape letter held b r
 letter_of letter held a b r (front, inl (other, byte, stands, is, e), whole) first differs =
     let here : letter ∷ b ≡ other ∷ r = sym first ∙ whole ∙ ap (λ t. t ++ r) e in
@@ -197,6 +204,7 @@ pub record CodeLeft (count code c : ℕ) (a r : List ℕ) : Type 0 where
 code_whole : (digits a r code : List ℕ) → code ≡ 123 ∷ digits ++ 125 ∷ [] → a ≡ code ++ r → a ≡ 123 ∷ digits ++ 125 ∷ r
 code_whole digits a r code e whole = whole ∙ ap (λ t. t ++ r) e ∙ ap (λ t. 123 ∷ t) (append_assoc digits (125 ∷ []) r)
 
+-- A code begins with `{`.
 pub code_begins : (c : ℕ) (a b r : List ℕ) (first : ℕ) → TakesPhrase (IsCode c) a r → a ≡ first ∷ b → (first ≡ 123) × CodeLeft 0 0 c b r
 code_begins c a b r first (code, (digits, numeral, few, scalar, says, e), whole) is =
     let here : first ∷ b ≡ 123 ∷ digits ++ 125 ∷ r = sym is ∙ code_whole digits a r code e whole in

@@ -65,6 +65,7 @@ byte_more (b ∷ bs) high low text (x, y, rest, p, q, is, more, whole) h l =
 abbrev pub HasBytes : List ℕ → ℕ → List ℕ → List ℕ → Type 0
 HasBytes bytes count digits rest = (front : List ℕ) × AreDigitsOf bytes front × (digits ≡ front ++ rest) × (length rest + 2 * count ≡ length digits)
 
+-- Two digits more denote one byte more.
 pub bytes_more : (bytes : List ℕ) (count high low : ℕ) (digits rest middle after : List ℕ) → HasBytes bytes count digits rest → rest ≡ high ∷ middle → middle ≡ low ∷ after
     → digit_value high < 16 → digit_value low < 16 → HasBytes (bytes ++ (digit_value high * 16 + digit_value low) ∷ []) (count + 1) digits after
 bytes_more bytes count high low digits rest middle after (front, held, whole, long) first second h l =
@@ -116,13 +117,16 @@ pieces_more q held text h t (ps, all, is, whole) one =
 abbrev pub HasPieces : ℕ → List ℕ → List ℕ → List ℕ → Type 0
 HasPieces q held text rest = TakesPhrase (Then (IsSign q) (ArePieces q held)) text rest
 
+-- After the first quote, no piece is taken yet.
 pub quote_takes : (q : ℕ) (text rest : List ℕ) → TakesPhrase (IsSign q) text rest → HasPieces q [] text rest
 quote_takes q text rest (front, sign, whole) = (front, (front, [], sign, ([], tt, refl, refl), sym (append-nil front)), whole)
 
+-- One piece more adds its bytes.
 pub quoted_more : (q : ℕ) (held h t text rest after : List ℕ) → HasPieces q held text rest → IsPiece q h t → rest ≡ t ++ after → HasPieces q (held ++ h) text after
 quoted_more q held h t text rest after (front, (f, g, sign, pieces, joint), whole) one next =
     (front ++ t, (f, g ++ t, sign, pieces_more q held g h t pieces one, ap (λ u. u ++ t) joint ∙ append_assoc f g t), whole ∙ ap (λ u. front ++ u) next ∙ sym (append_assoc front t after))
 
+-- A quote after the pieces ends the quoted text.
 pub quoted_end : (q : ℕ) (held text rest after : List ℕ) → HasPieces q held text rest → rest ≡ q ∷ after → TakesPhrase (IsQuoted q held) text after
 quoted_end q held text rest after (front, (f, g, sign, pieces, joint), whole) next =
     (front ++ q ∷ [], (f, g ++ q ∷ [], sign, (g, q ∷ [], pieces, refl, refl), ap (λ u. u ++ q ∷ []) joint ∙ append_assoc f g (q ∷ [])), whole ∙ ap (λ u. front ++ u) next ∙ sym (append_assoc front (q ∷ []) after))
@@ -151,6 +155,7 @@ escape_shorter old new text rest (held, added, (front, inr (c, code, stands, is,
 pub plain_more : (q byte : ℕ) (held text rest after : List ℕ) → HasPieces q held text rest → rest ≡ byte ∷ after → byte ≢ q → byte ≢ 92 → HasPieces q (held ++ byte ∷ []) text after
 plain_more q byte held text rest after taken next other plain = quoted_more q held (byte ∷ []) (byte ∷ []) text rest after taken (inl (byte, other, plain, refl, refl)) next
 
+-- An escape is a piece.
 pub escape_more : (q : ℕ) (held new text rest middle after : List ℕ) → HasPieces q held text rest → rest ≡ 92 ∷ middle
     → (h : List ℕ) × (new ≡ held ++ h) × TakesPhrase (IsEscape h) middle after → HasPieces q new text after
 escape_more q held new text rest middle after taken next (h, is, (escape, one, whole)) =

@@ -18,7 +18,7 @@ pub memory_passed : {V : Type 0} (P : V → Type 0) (r : Result V Stop) (e : Sto
 memory_passed P (Ok x) e h is = absurd h
 memory_passed P (Err y) e h is = h ∙ is
 
--- A last call whose answer is passed on as it is.
+-- A last call whose answer is passed on unchanged.
 pub reads_as : {V P Q : Type 0} (r : Result V Stop) → (P → Q) → OnOk r P → IfErr r (λ stop. stop ≡ Memory) → MatchResult r (λ v. Q) (λ stop. stop ≡ Memory)
 reads_as (Ok x) f done failed = f done
 reads_as (Err e) f done failed = failed
@@ -74,7 +74,7 @@ module _ {T U : Type 0} {see : T → U} {N : Type 0} {R : U → Type 0} {S : U �
   pub refused : {e : Stop} → (N → (u : U) (x : List ℕ) → R u → TakesPhrase (S u) a x → FollowsValue x → ⊥) → ReadsText see N R S a (Err e) b
   refused none = record { value = tt; spelled = tt; accepted = λ names u x is k goes. absurd (none names u x is k goes) }
 
-  -- Memory is lacking.
+  -- An allocation failed.
   pub no_memory : (r : Result T Stop) (e : Stop) → IsErrAnd r (λ y. y ≡ e) → e ≡ Memory → ReadsText see N R S a r b
   no_memory (Ok v) e back is = absurd back
   no_memory (Err y) e back is = record { value = tt; spelled = tt; accepted = λ names u x what k goes. back ∙ is }
@@ -140,6 +140,7 @@ prefixed vs (Err e) = Err e
 pub record Going {V : Type 0} (Whole Rest : Result (List V) Stop → List ℕ → Type 0) (done : List V) : Type 0 where
   pub ends : (r : Result (List V) Stop) (b : List ℕ) → Rest r b → Whole (prefixed done r) b
 
+-- Before the first item, reading what is left is reading the whole.
 pub going_begins : {V : Type 0} (Whole : Result (List V) Stop → List ℕ → Type 0) {done : List V} → done ≡ [] → Going Whole Whole done
 going_begins {V} Whole none = rw none (record { ends = ends })
   where
@@ -147,6 +148,7 @@ going_begins {V} Whole none = rw none (record { ends = ends })
     ends (Ok vs) b h = h
     ends (Err e) b h = h
 
+-- After one more item, reading the whole still ends as reading what is left.
 pub going_on : {V : Type 0} {Whole Rest Next : Result (List V) Stop → List ℕ → Type 0} {done more : List V} {v : V} → Going Whole Rest done → more ≡ done ++ v ∷ []
     → ((r : Result (List V) Stop) (b : List ℕ) → Next r b → Rest (prefixed (v ∷ []) r) b) → Going Whole Next more
 going_on {V} {Whole} {Rest} {Next} {done} {more} {v} so is step = rw is (record { ends = ends })
@@ -159,9 +161,11 @@ going_on {V} {Whole} {Rest} {Next} {done} {more} {v} so is step = rw is (record 
 pub going_ends : {V : Type 0} {Whole Rest : Result (List V) Stop → List ℕ → Type 0} {done : List V} {b : List ℕ} → Going Whole Rest done → Rest (Ok []) b → Whole (Ok done) b
 going_ends {V} {Whole} {Rest} {done} {b} so h = subst (λ ws. Whole (Ok ws) b) (append-nil done) (so.ends (Ok []) b h)
 
+-- After the last item, the whole is read.
 pub going_last : {V : Type 0} {Whole Rest : Result (List V) Stop → List ℕ → Type 0} {done more : List V} {v : V} {b : List ℕ} → Going Whole Rest done → more ≡ done ++ v ∷ []
     → Rest (Ok (v ∷ [])) b → Whole (Ok more) b
 going_last {V} {Whole} {Rest} {done} {more} {v} {b} so is h = subst (λ ws. Whole (Ok ws) b) (sym is) (so.ends (Ok (v ∷ [])) b h)
 
+-- If what is left can't be read, the whole can't be read.
 pub going_stops : {V : Type 0} {Whole Rest : Result (List V) Stop → List ℕ → Type 0} {done : List V} {e : Stop} {b : List ℕ} → Going Whole Rest done → Rest (Err e) b → Whole (Err e) b
 going_stops {V} {Whole} {Rest} {done} {e} {b} so h = so.ends (Err e) b h

@@ -1,4 +1,5 @@
--- When a text must be read: what a reader answers, what may follow a value, and types whose names tell their values apart.
+-- When a text must be read. The definitions are of a reader's answers, of what may follow a value, and of types whose names tell their
+-- values apart.
 use Rattle.std.specs.Prelude.{◌≡◌, ◌≢◌, ℕ, ◌<◌, List, length, map, Vec, Result, IfOk, MatchResult}
 use Rattle.std.specs.declared.alloc.Global.{Global}
 use Rattle.postcard_wire.specs.Reading.{Each}
@@ -48,18 +49,18 @@ abbrev mutual
 abbrev pub FollowsValue : List ℕ → Type 0
 FollowsValue text = GoesOnBy follows_type text
 
--- r is a value of P, and what is left of the text is `after`; or memory is lacking.
+-- r is a value of P, and what is left of the text is `after`. Or an allocation failed.
 abbrev pub ReadsAs : {V : Type 0} → (V → Type 0) → Result V Stop → List ℕ → List ℕ → Type 0
 ReadsAs P r left after = MatchResult r (λ v. P v × (left ≡ after)) (λ stop. stop ≡ Memory)
 
 -- Each prefix of the text that denotes a tree of R is read as that tree if what follows it may follow a value. Just that prefix is taken,
--- or memory is lacking.
+-- or an allocation failed.
 abbrev pub Accepts : (Tree → Type 0) → Speller → List ℕ → Result Value Stop → List ℕ → Type 0
 Accepts R S text r left = (t : Tree) (after : List ℕ) → R t → TakesPhrase (S t) text after → FollowsValue after → ReadsAs (IsTree t) r left after
 
 -- The answer r of a call that reads from the start of the text, and leaves `left`. What it reads is of R, and the text before `left`
 -- denotes it. N says that names tell values apart. If it holds, each prefix that denotes a tree of R is read as that tree, and just that
--- prefix is taken. It needs that what follows the prefix may follow a value, and that memory suffices.
+-- prefix is taken. This holds if what follows the prefix may follow a value and no allocation fails.
 pub record ReadsText {T V : Type 0} (see : V → T) (N : Type 0) (R : T → Type 0) (S : T → List ℕ → Type 0) (text : List ℕ) (r : Result V Stop) (left : List ℕ) : Type 0 where
   pub value : IfOk r (λ v. R (see v))
   pub spelled : IfOk r (λ v. TakesPhrase (S (see v)) text left)

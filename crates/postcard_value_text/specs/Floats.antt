@@ -47,7 +47,7 @@ abbrev pub EndsNumber : List ℕ → Type 0
 EndsNumber [] = Unit {0}
 EndsNumber (b ∷ text) = is_of_float b ≡ false
 
--- The text doesn't go on with a float: nor does a `(` come next.
+-- The text doesn't go on with a number, and no `(` comes next.
 abbrev pub EndsFloat : List ℕ → Type 0
 EndsFloat text = EndsNumber text × ((after : List ℕ) → TakesPhrase (IsSign 40) text after → ⊥)
 

@@ -1,6 +1,6 @@
 -- The text of a value of a type with names, on one line. The contract of std doesn't say how a string or a character that isn't ASCII is
--- escaped. The contract of `ryu` doesn't say which digits a float has. Nothing is said then of the whole text (`None`). The text of a float
--- alone denotes it (`ShowsFloat`).
+-- escaped. The contract of `ryu` doesn't say which digits a float has. The text of the whole is then not specified (`None`). The text of a
+-- float alone denotes it (`ShowsFloat`).
 use Rattle.std.specs.Prelude.{ℕ, zero, suc, ◌/◌, ◌%◌, Bool, true, false, not, ◌&&◌, ◌==◌, nat_lt, if◌then◌else◌, List, [], ◌∷◌, ◌++◌, Option, Some, None, codes}
 use Rattle.std.specs.Fmt.{◌++?◌, decimal, signed_decimal, digits, debug_char, debug_str}
 use Rattle.postcard_wire.specs.Tree.{Tree, Trees, Byte, Boolean, Num, Int, Text, NoTrees, Then}
@@ -12,7 +12,7 @@ use Rattle.postcard_schema.specs.declared.leaf.Leaf.TheVariants as leaves
 use Rattle.postcard_value.specs.Numbers.{order_of, bytes_of, signed_of}
 use Rattle.postcard_value_text.specs.Layout.{Layout, Layouts, Fields, leaf, option, list, mapping, array, tuple, structure, choice, no_layouts, then_layout, no_fields, then_field, is_unit, has_brackets}
 
--- The text as which a tree is printed, or `None` if nothing is said of it.
+-- The text as which a tree is printed, or `None` if it is not specified.
 abbrev pub Printer : Type 0
 Printer = Tree → Option (List ℕ)
 
@@ -96,7 +96,7 @@ abbrev pub array_text : Printer → Printer
 array_text p (nodes.Group ts) = items_text p ts
 array_text p t = None
 
--- The text of a map, of which p prints an entry.
+-- The text of a map. The printer p prints an entry.
 abbrev pub entries_text : Printer → Trees → Option (List ℕ)
 entries_text p ts = enclosed (codes "{") (joined (codes ", ") (all_by p ts)) (codes "}")
 
@@ -124,7 +124,7 @@ abbrev pub tuple_text : Layouts → List Printer → Printer
 tuple_text xs ps (nodes.Group ts) = parts_text xs ps ts
 tuple_text xs ps t = None
 
--- The text of a struct, of which each printer prints a field.
+-- The text of a struct. Each printer prints a field.
 abbrev pub fields_text : List Printer → Trees → Option (List ℕ)
 fields_text ps ts = enclosed (codes "{") (joined (codes ", ") (each_by ps ts)) (codes "}")
 

@@ -18,7 +18,7 @@ use Rattle.postcard_value_text.specs.Numbers.{SpellsBits}
 use Rattle.postcard_value_text.specs.Quoted.{IsQuoted, IsByteString}
 use Rattle.postcard_value_text.specs.Layout.{Layout, Layouts, Fields, leaf, option, list, mapping, array, tuple, structure, choice, no_layouts, then_layout, no_fields, then_field, layout_of}
 
--- The texts of one kind.
+-- A set of texts, such as those that denote one value.
 abbrev pub Phrase : Type 1
 Phrase = List ℕ → Type 0
 

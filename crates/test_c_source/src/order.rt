@@ -49,7 +49,7 @@ pub extern "C" fn circled(count: u8, a: u64, b: u64) -> u64 {
     two.left ^ (two.right << 11)
 }
 
-/// Returns a sum over values of which each is made of the last, and used after it has changed.
+/// Returns a sum over values. Each is made of the one before, and used after that one has changed.
 #[unsafe(no_mangle)]
 pub extern "C" fn chained(count: u8, a: u64, b: u64) -> u64 {
     let mut value = a;

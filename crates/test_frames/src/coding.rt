@@ -216,8 +216,8 @@ fn a_full_group_at_the_end(rt: HostRuntime) {
     is_whole_or_short(&rt, &[0]);
 }
 
-/// Frames, each beside the numbers of bytes that its decoding uses in the source and for the data,
-/// and the bytes after it.
+/// Frames, each beside the report of its decoding, which is two numbers of bytes, and the bytes
+/// after it. The numbers are those read of the source and written of the data.
 const REPORTS: [(&[u8], usize, usize, &[u8]); 7] = [
     (&[1, 0], 1, 0, &[1, 0]),
     (&[2, 7], 2, 1, &[7, 7]),

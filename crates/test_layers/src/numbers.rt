@@ -167,7 +167,7 @@ fn refuses_numbers_that_do_not_end(rt: HostRuntime) {
     );
 }
 
-/// Numbers of 16 bits beside these folded.
+/// Signed numbers of 16 bits, each beside its zigzag encoding.
 const FOLDED: [(i16, u16); 6] = [
     (0, 0),
     (-1, 1),

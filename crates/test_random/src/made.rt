@@ -14,7 +14,7 @@ pub(crate) trait Made: Drop + Sized {
     fn made<C: Choices>(choices: &mut C) -> Option<Self>;
 }
 
-/// Returns a number with a sign, of which the next number without is the zigzag code. The even
+/// Returns a number with a sign. The next number without a sign is its zigzag encoding. The even
 /// numbers stand for 0, 1, 2 and so on, the odd ones for -1, -2, -3 and so on.
 fn signed<C: Choices>(choices: &mut C, most: u128) -> Option<i128> {
     let code = choices.number(most)?;

@@ -90,7 +90,7 @@ impl Choices for Plain<'_> {
         String::from_str(self.alloc, self.utf8(len)?).ok()
     }
 
-    /// The seconds and the nanoseconds, of which each thousand million is one more second.
+    /// The seconds and the nanoseconds. Each thousand million nanoseconds are one more second.
     fn duration(&mut self) -> Option<Duration> {
         let secs = u64::try_from(self.number(0xFFFF_FFFF_FFFF_FFFF)?).ok()?;
         let nanos = u32::try_from(self.number(0xFFFF_FFFF)?).ok()?;

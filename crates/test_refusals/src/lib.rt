@@ -1,5 +1,5 @@
-//! Tests of failures: damaged input, counts that exceed the input, buffers that are too short,
-//! readers and writers that fail, and each allocation failing in turn.
+//! Tests of failures: damaged input, counts that exceed the input, short buffers, readers and
+//! writers that fail, and each allocation failing in turn.
 //!
 //! Such a call fails with a named error. After a failed allocation the same call, made again, has
 //! the right result. Once the tests are built, `checks/memory` refuses the Nth allocation of each

@@ -259,7 +259,7 @@ fn takes_sixty_fields(rt: HostRuntime) {
     assert_eq!(&rt; printed(&rt, more.as_str()).as_str(), wanted);
 }
 
-/// The call flushes what it tells, and fails if that fails.
+/// The call flushes its error message, and fails if the flush fails.
 #[test]
 fn flushes_a_refusal(rt: HostRuntime) {
     for (flushes, status) in &[(true, 2), (false, 3)] {

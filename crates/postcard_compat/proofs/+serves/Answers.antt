@@ -1,4 +1,4 @@
--- Each kind of type; part after part.
+-- `serves` and the functions under it, by the kind of type. A row serves another part by part (`ByKind`).
 use Rattle.std.proofs.Common.{◌≡◌, ◌<◌, ◌≤◌, ◌∙◌, length, subst, arith}
 use Rattle.postcard_schema.specs.Lemmas.{contents_length}
 use Rattle.postcard_schema.specs.Meaning.{contents, types_of}

@@ -1,4 +1,4 @@
--- If the parts that are left serve, all serve.
+-- If the parts from the loop's place on serve, all parts serve.
 use Rattle.std.proofs.Common.{drop}
 use Rattle.postcard_schema.specs.Meaning.{contents, types_of}
 use Rattle.postcard_compat.specs.Parts.{parts_of}

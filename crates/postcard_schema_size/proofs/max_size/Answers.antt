@@ -1,4 +1,4 @@
--- What holds of the limit holds of the result, which is its greatest size.
+-- The result is the greatest size of the type's limit, so the laws of the limit hold of it.
 use Rattle.std.proofs.Common.{sym, subst}
 use Rattle.postcard_schema.specs.Meaning.{type_of, reads}
 use Rattle.postcard_max.specs.Limits.{AreBounded, IsReached}

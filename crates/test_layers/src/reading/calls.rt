@@ -68,8 +68,8 @@ fn gives_keys_and_values(rt: HostRuntime) {
     same(&rt, pairs.size_hint(), Some(2));
 }
 
-/// Asserts that the parts begin, and that no hint tells how many of them are left: there are more
-/// than the bytes left.
+/// Asserts that the parts begin, and that there is no hint of their number, since it exceeds the
+/// bytes left.
 fn assert_begins(rt: &impl Abort, parts: Result<SeqAccess>, d: &Deserializer<Slice>) {
     same(rt, value(rt, parts).size_hint(d), None);
 }

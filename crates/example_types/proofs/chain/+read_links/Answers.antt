@@ -1,4 +1,4 @@
--- Each exit of the function read the index, the number and the other links as far as it came.
+-- At each return, the index, the number and the other links are read as far as the function came.
 use Rattle.std.proofs.Common.{◌≡◌, suc, ◌-◌, arith, rules, refl}
 use Rattle.postcard_wire.specs.declared.error.Error.TheVariants.{SerdeDeCustom}
 use Rattle.postcard_wire.specs.Reading.{IsEnd, IsGroup}

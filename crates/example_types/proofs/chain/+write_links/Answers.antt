@@ -1,4 +1,4 @@
--- Each exit of the function wrote the index, the number and the other links as far as it came.
+-- At each return, the index, the number and the other links are written as far as the function came.
 use Rattle.std.proofs.Common.{arith, ◌-◌, ap}
 use Rattle.example_types.specs.Links.{chain_cases}
 use Rattle.postcard.specs.Lemmas.{wrote_then, wrote_stop, wrote_err, wrote_last}

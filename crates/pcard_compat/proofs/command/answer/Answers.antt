@@ -1,4 +1,4 @@
--- Both words stand for types, and what comparing these gives is printed.
+-- Both arguments stand for types, and the outcome of comparing these is printed.
 use Rattle.std.proofs.Common.{inr, refl, Result, Ok, Err, IfOk, IfErr, string_bytes}
 use Rattle.postcard_schema.specs.declared.schema.Schema.{Schema}
 use Rattle.pcard_print.specs.declared.error.PrintError.{PrintError}

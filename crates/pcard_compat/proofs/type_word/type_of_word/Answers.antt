@@ -1,4 +1,4 @@
--- The text whose expression is read is the word, or the one that a file declares.
+-- The expression that is parsed is the argument itself, or that of the type that a file declares.
 use Rattle.std.proofs.Common.{inl, inr, refl}
 use Rattle.pcard_compat.proofs.type_word.type_of_word.Goals as goal
 

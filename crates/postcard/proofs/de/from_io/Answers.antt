@@ -1,4 +1,4 @@
--- If a prefix of a steady reader's bytes encodes a tree that the type reads, and the scratch is as long, that prefix can be taken.
+-- If a prefix of a steady reader's bytes encodes a tree of the type, and the scratch is as long, that prefix can be taken.
 use Rattle.std.proofs.Common.{ap, ◌∙◌, length}
 use Rattle.postcard_de_nodes.specs.ReadLemmas.{is_refusal}
 use Rattle.postcard_de_nodes.specs.ErrorLemmas.{only_grown}

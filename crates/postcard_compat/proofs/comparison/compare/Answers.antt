@@ -1,4 +1,4 @@
--- What is known of the flattened types is known of the types.
+-- A type has the messages of its flattened type. So what is known of the flattened types holds of the types.
 use Rattle.postcard_schema.specs.Meaning.{type_of}
 use Rattle.postcard_compat.proofs.Verdicts.{relates_of}
 use Rattle.postcard_compat.proofs.comparison.compare.Goals as goal

@@ -1,4 +1,4 @@
--- The difference found is the move.
+-- If a difference with a moved name is found, it is the one that the clause asks for.
 use Rattle.std.proofs.Common.{sym, subst, ◌∙◌, arith}
 use Rattle.postcard_compat.specs.Comparing.{HasMove}
 use Rattle.postcard_compat.proofs.comparison.has_move.Goals as goal

@@ -1,4 +1,4 @@
--- The best example so far is one.
+-- The best example so far is an example of the two types.
 use Rattle.std.proofs.Common.{IfSome}
 use Rattle.postcard_schema.specs.Meaning.{type_of}
 use Rattle.postcard_compat.specs.Examples.{IsExample}

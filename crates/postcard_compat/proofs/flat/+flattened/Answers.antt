@@ -1,4 +1,4 @@
--- Each kind of type; part after part.
+-- `flattened` and the functions under it, by the kind of type. A row is built part by part (`Flattening`).
 use Rattle.std.proofs.Common.{◌≡◌, ◌<◌, ◌≤◌, [], ◌++◌, length, map, ap, sym, subst, ◌∙◌, arith}
 use Rattle.std.proofs.lemmas.List.{take_all}
 use Rattle.std.proofs.lemmas.Result.{IfOk-weaker}

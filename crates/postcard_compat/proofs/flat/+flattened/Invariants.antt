@@ -1,4 +1,4 @@
--- The row has the parts so far, and each variant so far is as before.
+-- The row so far has the messages of the parts so far, and each variant so far those of the original variant.
 use Rattle.std.proofs.Common.{map, take}
 use Rattle.std.specs.List.{AllZip}
 use Rattle.postcard_schema.specs.Meaning.{type_of}

@@ -1,4 +1,4 @@
--- The parts so far were appended.
+-- The parts before the loop's place were appended.
 use Rattle.std.proofs.Common.{◌≡◌, ◌++◌, take}
 use Rattle.postcard_compat.specs.Parts.{part_types}
 use Rattle.postcard_compat.proofs.flat.append.Given as goal

@@ -1,4 +1,4 @@
--- No parts, and an array that is kept.
+-- Two cases: an array of elements without parts has no parts, and a long array is kept.
 use Rattle.std.proofs.Common.{◌≡◌, ◌∷◌, [], length, sym, subst, arith}
 use Rattle.std.proofs.lemmas.Grind.{common_steps}
 use Rattle.std.proofs.lemmas.Result.{IfOk-weaker}

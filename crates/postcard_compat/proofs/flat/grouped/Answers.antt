@@ -1,4 +1,4 @@
--- A struct is its row, and one part is the row of that part.
+-- A row of one part becomes that part, and any other row a struct. Both have the messages of the row.
 use Rattle.std.proofs.Common.{◌≡◌, length, arith}
 use Rattle.postcard_compat.proofs.Flattening.{only_same, struct_same}
 use Rattle.postcard_compat.proofs.flat.grouped.Goals as goal

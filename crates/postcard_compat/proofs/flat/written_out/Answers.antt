@@ -1,4 +1,4 @@
--- Element after element.
+-- Each turn appends the parts of one element.
 use Rattle.std.proofs.Common.{◌≡◌, ◌∷◌, [], replicate, sym, subst, arith}
 use Rattle.postcard_schema.specs.Meaning.{array, group, row_of}
 use Rattle.postcard_compat.specs.Parts.{part_types}

@@ -1,4 +1,4 @@
--- The row has the elements so far.
+-- The row has the parts of the elements before the loop's place.
 use Rattle.std.proofs.Common.{replicate}
 use Rattle.postcard_schema.specs.Meaning.{group, row_of}
 use Rattle.postcard_compat.specs.Parts.{part_types}

@@ -1,4 +1,4 @@
--- Part after part.
+-- Each turn compares one part, and the parts after it decide the others.
 use Rattle.std.proofs.Common.{◌≤◌, length, arith}
 use Rattle.postcard_compat.specs.Parts.{parts_of}
 use Rattle.postcard_compat.proofs.Fronts.{front_next, front_end}

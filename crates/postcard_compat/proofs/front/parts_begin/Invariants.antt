@@ -1,4 +1,4 @@
--- If the parts that are left begin, all begin.
+-- If the parts from the loop's place on serve the first of the old parts there, the whole row does.
 use Rattle.std.proofs.Common.{drop}
 use Rattle.postcard_schema.specs.Meaning.{types_of}
 use Rattle.postcard_compat.specs.Parts.{parts_of}

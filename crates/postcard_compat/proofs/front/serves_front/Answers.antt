@@ -1,4 +1,4 @@
--- Each type serves its own row and is served by it.
+-- A type and the group of its row have the same messages, so it is enough to compare rows.
 use Rattle.postcard_schema.specs.Meaning.{group, type_of, types_of}
 use Rattle.postcard_compat.specs.Parts.{parts_of}
 use Rattle.postcard_compat.proofs.Fronts.{front_through, group_front}

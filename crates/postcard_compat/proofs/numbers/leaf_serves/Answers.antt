@@ -1,4 +1,4 @@
--- Two types of integers.
+-- The case of two types of integers, by `varint_serves`.
 use Rattle.std.proofs.Common.{subst, sym}
 use Rattle.postcard_schema.specs.Meaning.{leaf}
 use Rattle.postcard_compat.specs.Parts.{integer_leaf}

@@ -1,4 +1,4 @@
--- Both types are of varints, of one sign.
+-- If the function returns `true`, both types are varints of one sign, and the new one is at least as wide (`Varints`).
 use Rattle.std.proofs.Common.{◌<◌, ◌≤◌, sym, ◌∙◌, arith}
 use Rattle.postcard_schema.specs.Leaves.{size_of}
 use Rattle.postcard_compat.proofs.Varints.{same_signs, wider_serves}

@@ -1,4 +1,4 @@
--- An option, and an enum that is read as one.
+-- Two cases: an option, and an enum whose first variant has no bytes.
 use Rattle.std.proofs.Common.{◌≡◌, ◌<◌, length, get_or, subst, arith}
 use Rattle.std.proofs.lemmas.Grind.{common_steps}
 use Rattle.postcard_compat.specs.Parts.{parts_of}

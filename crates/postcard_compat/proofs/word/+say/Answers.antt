@@ -1,4 +1,4 @@
--- Each kind of type; part after part.
+-- `say` and the functions under it, by the kind of type. The words of a whole are appended part by part (`Telling`).
 use Rattle.std.proofs.Common.{◌≡◌, ◌<◌, ◌≤◌, [], ◌∷◌, ◌++◌, get_or, length, map, OnOk, sym, ap, subst, ◌∙◌, arith, rules}
 use Rattle.std.proofs.lemmas.Grind.{common_steps}
 use Rattle.postcard_wire.specs.Tree.{trees}

@@ -1,4 +1,4 @@
--- What is said so far, and what is left.
+-- The words so far, and those of the parts left, are the words of all.
 use Rattle.std.proofs.Common.{map}
 use Rattle.postcard_wire.specs.Tree.{trees}
 use Rattle.postcard_schema.specs.Meaning.{contents, entry_of, type_of, types_of}

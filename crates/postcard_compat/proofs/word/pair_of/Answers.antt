@@ -1,4 +1,4 @@
--- The first two parts make a pair.
+-- The first two parts of a group are the pair that is returned.
 use Rattle.std.proofs.Common.{◌≡◌, ◌<◌, get_or, length, map, ap, subst, sym, ◌∙◌, arith, rules}
 use Rattle.std.proofs.lemmas.Grind.{common_steps}
 use Rattle.postcard_wire.specs.Tree.{trees}

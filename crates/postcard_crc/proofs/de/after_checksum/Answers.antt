@@ -1,4 +1,4 @@
--- The bytes of the checksum, and what follows them.
+-- The bytes of the checksum as a trailer, and the bytes after them.
 use Rattle.std.proofs.Common.{◌∙◌, ℕ, List, ◌++◌, ap, sym}
 use Rattle.std.proofs.lemmas.Result.{IfOk-weaker}
 use Rattle.postcard_crc.proofs.Split.{too_short}

@@ -1,4 +1,4 @@
--- The vector holds what was appended to none.
+-- The bytes were appended to an empty vector, so the vector has just these bytes.
 use Rattle.std.proofs.Common.{◌++◌, List, ℕ, ap, ◌∙◌, rules}
 use Rattle.std.proofs.lemmas.Result.{IfOk-weaker}
 use Rattle.postcard_wire.specs.Spelling.{canonical}

@@ -1,4 +1,4 @@
--- One variant more is the unit.
+-- Each turn appends one variant, whose content is the unit.
 use Rattle.std.proofs.Common.{◌++◌, [], ◌∷◌, map, sym, ap, ◌∙◌}
 use native.Mathlib.Numerals.{add-one}
 use Rattle.std.proofs.lemmas.List.{map-append}

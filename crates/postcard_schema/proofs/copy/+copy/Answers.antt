@@ -1,5 +1,4 @@
--- `try_clone` and the loops under it: the copy of a struct or an enum has the type and the names of the original, since each part was
--- copied.
+-- `try_clone` and the loops under it: each part is copied, so the copy of a struct or an enum has the original's type and names.
 use Rattle.std.proofs.Common.{map, ap, ◌∙◌}
 use Rattle.std.proofs.lemmas.List.{take_all}
 use Rattle.postcard_schema.specs.Lemmas.{type_of_struct, type_of_enum}

@@ -1,4 +1,4 @@
--- Each kind of type; part after part.
+-- The functions under `endless_parts`, by the kind of type. The paths of a whole come from those of its parts, one after the other.
 use Rattle.std.proofs.Common.{◌≡◌, ◌<◌, refl, ◌+◌, [], ◌∷◌, ◌++◌, ap, ◌∙◌, arith, length, drop, map}
 use Rattle.std.specs.Prelude.{string_bytes}
 use Rattle.std.proofs.lemmas.List.{map_push}

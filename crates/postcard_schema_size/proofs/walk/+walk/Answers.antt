@@ -1,4 +1,5 @@
--- Each kind of type; part after part, and variant after variant.
+-- `sizes_of` and the functions under it, by the kind of type. The sizes of parts are added, and of variants the least and the greatest are
+-- kept.
 use Rattle.std.proofs.Common.{◌≡◌, ◌⊎◌, inl, inr, Box, ◌<◌, ◌+◌, ◌^◌, Some, drop, arith, length}
 use Rattle.postcard_schema.specs.Lemmas.{type_of_leaf, type_of_option, type_of_seq, type_of_map, type_of_array, type_of_struct, type_of_enum}
 use Rattle.std.specs.declared.alloc.Global.{Global}

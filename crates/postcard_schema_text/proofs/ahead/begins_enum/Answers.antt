@@ -1,4 +1,4 @@
--- `begins_enum` is right in each case: a `|` is next, a word that is no variant name, or a variant name and the sign after it.
+-- `begins_enum` is right in each case: a `|` is next, another word than a variant's name, or a variant's name.
 use Rattle.std.proofs.Common.{refl, sym, ◌∙◌, subst, true≢false}
 use Rattle.postcard_schema_text.specs.Text.{TakesPhrase, IsWord}
 use Rattle.postcard_schema_text.specs.FrontLemmas.{WordTaken, word_taken}

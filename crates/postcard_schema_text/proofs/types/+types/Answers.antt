@@ -32,6 +32,7 @@ use Rattle.postcard_schema_text.proofs.Refusals.{refusal, refusal_as, refuses, r
 use Rattle.postcard_schema_text.proofs.types.+types.Goals.{read_enum-else-len-eq1-via-then-len-eq1+else-not-leads, read_enum-else-len-eq1-via-else-len-eq1}
 use Rattle.postcard_schema_text.proofs.types.+types.Goals as goal
 
+-- ---- structs and maps
 pub read_braces-returns-then-begins_field : goal.read_braces-returns-then-begins_field
 read_braces-returns-then-begins_field t c =
     let named = c.begins_field.ensures.0 c.if-begins_field.true in
@@ -51,6 +52,7 @@ read_braces-returns-in-Err t c =
     let no_field : IsNamed c.args.rest.now.now → ⊥ = λ named. true≢false (sym (c.begins_field.ensures.1 named) ∙ c.if-begins_field.false) in
     refuses (refusal_as c.or_colon.ensures.memory (refusal (λ (s, r, h, free). (s, r, braces_as_map _ s _ r no_field h, free)) c.in-Err.ensures.refused))
 
+-- ---- the content of a variant
 pub read_content-returns-then-take : goal.read_content-returns-then-take
 read_content-returns-then-take t c =
     let sign = c.take.ensures.taken c.if-take.true in
@@ -74,6 +76,7 @@ read_content-returns t c =
       refused = tt;
     }
 
+-- ---- types without `&` and `?`
 pub read_plain-returns-then-take : goal.read_plain-returns-then-take
 read_plain-returns-then-take t c =
     let sign = c.take.ensures.taken c.if-take.true in
@@ -99,6 +102,7 @@ read_plain-returns t c =
     reads_as (rw three at c.read_worded.ensures) (λ s h. takes_as _ _ _ _ (λ z k. inl k) h)
     (λ s r h ends. (plain_word_left _ s _ r (c.take.ensures.none c.if-take.false refl) no_tuple no_braces h, ends))
 
+-- ---- types that begin with their name
 pub read_worded-returns-then-is_empty : goal.read_worded-returns-then-is_empty
 read_worded-returns-then-is_empty t c =
     let word = c.take_word-word in
@@ -148,6 +152,7 @@ read_angled-returns-in-Holder t c = rw c.in-Holder.is c.read_holder.ensures
 pub read_angled-returns-in-Pair : goal.read_angled-returns-in-Pair
 read_angled-returns-in-Pair t c = rw c.in-Pair.is c.read_pair.ensures
 
+-- ---- types in `<` and `>`
 pub read_ended-returns-in_err-schema : goal.read_ended-returns-in_err-schema
 read_ended-returns-in_err-schema t c =
     reads_err _ c.from_residual.ensures.1 (refusal (λ (s, r, h, free). ended_begins _ _ s _ r c.requires h) c.in_err-schema.ensures.refused)
@@ -208,6 +213,7 @@ read_pair-returns t c =
       refused = tt;
     }) (λ (s, r, h, free). (two_read _ _ s y _ _ _ r second.one (second_left _ _ _ s x _ _ r first.one h)).may)
 
+-- ---- lists and arrays
 pub read_list-returns-in_err-element : goal.read_list-returns-in_err-element
 read_list-returns-in_err-element t c =
     reads_err _ c.from_residual.ensures.1 (refusal (λ (s, r, h, free). list_begins _ s _ r h) c.in_err-element.ensures.refused)
@@ -270,6 +276,7 @@ read_list-returns t c =
       refused = tt;
     }
 
+-- ---- maps
 pub read_map-returns-in_err-key : goal.read_map-returns-in_err-key
 read_map-returns-in_err-key t c =
     reads_err _ c.from_residual.ensures.1 (refusal (λ (s, r, h, free). two_begin _ _ pairs.Map s _ r h) c.in_err-key.ensures.refused)
@@ -300,6 +307,7 @@ read_map-returns t c =
       refused = tt;
     }) (λ (s, r, h, free). (two_read _ _ s y _ _ _ r value.one (map_value _ s _ _ _ r c.in_ok-expect.ensures.taken (second_left _ _ pairs.Map s _ _ _ r c.in_ok-key.ensures.one h))).may)
 
+-- ---- enums
 pub read_enum-loop-init : goal.read_enum-loop-init
 read_enum-loop-init t c =
     let leads = c.take-leads.ensures in
@@ -376,6 +384,7 @@ read_enum-returns t c =
     let none : c.loop.rest.now ≡ [] = is_empty _ (omega (arith, c.loop.invariant.short, c.loop-test.false)) in
     refuses (inr (λ (s, r, h, goes). enum_not_ended _ _ _ s r (rw none at (c.loop.invariant.left s r h goes))))
 
+-- ---- fields
 pub read_fields-loop-init : goal.read_fields-loop-init
 read_fields-loop-init t c =
     let none = c.new-fields.ensures.items in
@@ -499,6 +508,7 @@ read_field-returns t c =
       refused = tt;
     }) (λ _. word.ensures.taken.1.0)
 
+-- ---- tuples
 pub read_tuple-returns-then-take : goal.read_tuple-returns-then-take
 read_tuple-returns-then-take t c =
     let v = c.new-parts.result in
@@ -619,6 +629,7 @@ read_tuple-returns t c =
     let none : c.loop.rest.now ≡ [] = is_empty _ (omega (arith, c.loop.invariant.short, c.loop-test.false)) in
     refuses (inr (λ (s, r, h, free). tuple_not_ended _ _ s r (rw none at (c.loop.invariant.left s r h))))
 
+-- ---- references
 pub read_referred-references-init : goal.read_referred-references-init
 read_referred-references-init t c = record { left = λ s r h. h; takes = λ s r h. h }
 
@@ -650,6 +661,7 @@ read_referred-returns t c =
     reads_as (rw (c.take.ensures.left c.references-test.false) at c.read_plain.ensures) (λ s h. c.references.invariant.takes s _ (plain_is_referred _ s _ _ h))
     (λ s r h ends. (referred_is_plain _ s _ r none (c.references.invariant.left s r h), ends))
 
+-- ---- whole types
 pub read_type-returns-then-depth-eq0 : goal.read_type-returns-then-depth-eq0
 read_type-returns-then-depth-eq0 t c = refuses (inr (λ (s, r, h, goes). no_type _ s _ r (omega (arith, c.if-depth-eq0.true)) h))
 
@@ -718,6 +730,7 @@ read_type-returns t c =
       refused = tt;
     }
 
+-- ---- variants
 pub read_variant-returns-then-not-is_variant_name : goal.read_variant-returns-then-not-is_variant_name
 read_variant-returns-then-not-is_variant_name t c =
     let before = c.args.before.now.items in

@@ -1,4 +1,4 @@
--- Why the functions end: the depth that is left, and their order at one depth; and what each loop has taken.
+-- Why the functions end: by the depth that is left, and by their order at one depth. The invariants say what each loop has taken.
 use Rattle.std.proofs.Common.{ℕ, ◌+◌, ◌*◌, ◌-◌, ◌≤◌, List, length}
 use Rattle.postcard_schema.specs.declared.schema.Schema.{Schema}
 use Rattle.postcard_schema.specs.Meaning.{type_of}

@@ -1,4 +1,4 @@
--- What lasts is that pushes reach the state from the flavor that was passed.
+-- The property `lasts` is here that pushes lead from the flavor passed to the current state.
 use Rattle.postcard_ser.proofs.collect_str.print.Given as goal
 
 abbrev pub ghosts-write_text : goal.ghosts-write_text

@@ -1,4 +1,4 @@
--- What is taken so far.
+-- The bytes before `rest` are those of the entries before the loop's place.
 use Rattle.std.proofs.Common.{◌≡◌, ◌++◌, List, ℕ}
 use Rattle.postcard_schema.specs.Meaning.{entry_of, type_of}
 use Rattle.postcard_value.specs.Fronts.{SpellsEach}

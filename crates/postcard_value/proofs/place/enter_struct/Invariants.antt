@@ -1,4 +1,4 @@
--- What is taken so far.
+-- The bytes before `rest` are those of the fields before the loop's place.
 use Rattle.std.proofs.Common.{◌≡◌, ◌++◌, List, ℕ, take}
 use Rattle.postcard_schema.specs.Meaning.{contents}
 use Rattle.postcard_value.specs.Fronts.{SpellsParts}

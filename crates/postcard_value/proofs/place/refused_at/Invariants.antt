@@ -1,4 +1,4 @@
--- The part is one of the value, and where reading it stops, reading the value does.
+-- The current part is a part of the value, and reading the value stops where reading this part stops.
 use Rattle.std.proofs.Common.{◌≡◌, ◌+◌, ◌++◌, List, ℕ, length}
 use Rattle.postcard_schema.specs.declared.path.Step.{Step}
 use Rattle.postcard_schema.specs.Bounds.{depth}

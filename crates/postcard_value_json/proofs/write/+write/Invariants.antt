@@ -1,4 +1,4 @@
--- The JSON of the elements and parts so far.
+-- The JSON so far is that of the elements or parts before the loop's place.
 use Rattle.std.proofs.Common.{◌≡◌, map, take, Some}
 use Rattle.postcard_wire.specs.Tree.{trees}
 use Rattle.postcard_value.specs.Tree.{tree}

@@ -1,4 +1,4 @@
--- The JSON is none of the variants before the loop's place.
+-- The JSON has the form of no variant before the loop's place.
 use Rattle.std.proofs.Common.{◌≡◌, ℕ, ◌<◌, get_or}
 use Rattle.postcard_wire.specs.Tree.{Tree}
 use Rattle.postcard_schema.specs.declared.schema.Named.{Named}

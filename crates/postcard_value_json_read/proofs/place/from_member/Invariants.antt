@@ -1,4 +1,4 @@
--- The last member with the name is ahead, or it was found and only others are ahead.
+-- Either the last member with the name is still ahead in the text, or it was found and all members ahead have other names.
 use Rattle.std.proofs.Common.{◌≡◌, List, ℕ, length, ◌⊎◌}
 use Rattle.postcard_value_json_read.specs.Parts.{IsMemberAt}
 use Rattle.postcard_value_json_read.specs.Values.{IsEndOf}

@@ -1,4 +1,4 @@
--- The steps that are left lead from what is left to the part.
+-- The steps that are left lead from the text that is left to the part.
 use Rattle.std.proofs.Common.{List, ℕ, drop, map}
 use Rattle.postcard_schema.specs.Paths.{plain_path, plain_step}
 use Rattle.postcard_value_json_read.specs.Parts.{IsPartAt, Lead}

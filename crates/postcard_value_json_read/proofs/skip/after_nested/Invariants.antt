@@ -1,4 +1,4 @@
--- If the text is an array or an object and more text, what is left are pieces that close the open brackets, and the same text. Each turn
+-- Let the text be an array or an object and more text. What is left are pieces that close the open brackets, and the same text. Each turn
 -- makes it shorter.
 use Rattle.std.proofs.Common.{◌≡◌, ℕ, List, ◌++◌, length, ◌⊎◌, ◌≤◌, ◌+◌, suc}
 use Rattle.postcard_value_json_read.specs.Values.{IsEndOf, IsNested, Closes, Piece, bytes}

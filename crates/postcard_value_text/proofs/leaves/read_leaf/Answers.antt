@@ -1,4 +1,4 @@
--- Each type without parts, in three steps: the tree of the value, that the text denotes it, and that each text of a value is read.
+-- Each type without parts, in three steps. They are the tree of the value, that the text denotes it, and that each text of a value is read.
 use Rattle.std.proofs.Common.{◌≡◌, ◌<◌, ◌^◌, ◌∙◌, map, length, refl, sym, ap, arith, rules}
 use Rattle.std.specs.Prelude.{string_bytes}
 use Rattle.std.specs.Char.{encode_utf8}

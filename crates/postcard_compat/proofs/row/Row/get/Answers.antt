@@ -1,4 +1,4 @@
--- The content of what is at the index is the content at the index.
+-- The content of the field or variant at an index is the content at that index.
 use Rattle.std.proofs.Common.{◌≡◌, ◌<◌, length, get_or, sym, subst, arith}
 use Rattle.std.proofs.lemmas.Grind.{common_steps}
 use Rattle.postcard_schema.specs.Lemmas.{contents_length}

@@ -1,4 +1,4 @@
--- What is said so far, and what is left.
+-- The words so far, and those of the bytes left, are the words of all.
 use Rattle.std.proofs.Common.{drop, map}
 use Rattle.postcard_wire.specs.Tree.{Byte, trees}
 use Rattle.postcard_schema.specs.declared.leaf.Integer.TheVariants.{U8}

@@ -1,4 +1,4 @@
--- A byte string is a list of bytes; and what a value without parts says is one word.
+-- A byte string says what a list of bytes says. Any other value without parts says one word.
 use Rattle.std.proofs.Common.{◌≡◌, ◌∷◌, ◌++◌, length, map, OnOk, sym, ap, ap₂, subst, ◌∙◌, arith, rules}
 use Rattle.std.proofs.lemmas.Grind.{common_steps}
 use Rattle.std.proofs.lemmas.List.{length-map}

@@ -1,4 +1,4 @@
--- What is left in the buffer, and how long the frame and its data are.
+-- The buffer after decoding in place, and the lengths of the frame and its data.
 use Rattle.std.proofs.Common.{refl}
 use Rattle.postcard_crc.proofs.Decoding.{is_decoded, has_none}
 use Rattle.postcard_crc.proofs.de.cobs.decode_frame.Goals as goal

@@ -1,4 +1,4 @@
--- One feed more, until none of the piece is left.
+-- Each turn is one feed. The loop ends when nothing of the piece is left, or an allocation fails.
 use Rattle.std.proofs.Common.{length, refl, sym, ◌∙◌, [], eqb-true}
 use Rattle.std.proofs.lemmas.List.{append-nil}
 use Rattle.postcard_accumulator.specs.declared.answers.FeedResult.TheVariants.{Consumed, OverFull}

@@ -1,4 +1,4 @@
--- One read more, whose bytes are fed.
+-- Each turn is one read, whose bytes are fed.
 use Rattle.std.proofs.Common.{arith, length, refl, ◌≡◌}
 use Rattle.std.proofs.lemmas.List.{length-take-le}
 use Rattle.postcard_accumulator.specs.declared.reading.ReadEnd.TheVariants.{End, ReadFailed}

@@ -1,4 +1,4 @@
--- The frame was made after no bytes.
+-- The frame was made in an empty vector, so the vector has just the frame.
 use Rattle.std.proofs.Common.{◌++◌, List, ℕ, ap, ◌∙◌, rules}
 use Rattle.std.proofs.lemmas.Result.{IfOk-weaker}
 use Rattle.postcard_wire.specs.Spelling.{canonical}

@@ -1,4 +1,4 @@
--- The frame was made after no bytes.
+-- The frame was made at the start of the slice.
 use Rattle.std.proofs.Common.{◌++◌, take, ap, ◌∙◌}
 use Rattle.std.proofs.lemmas.Result.{IfOk-weaker}
 use Rattle.postcard_wire.specs.Spelling.{canonical}

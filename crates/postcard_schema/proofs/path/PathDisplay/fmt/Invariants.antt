@@ -1,4 +1,4 @@
--- The steps so far are printed.
+-- The text of the steps before the loop's place is printed.
 use Rattle.std.proofs.Common.{Ok, take}
 use Rattle.postcard_schema.specs.{WritesOnOk, path_text}
 use Rattle.postcard_schema.proofs.path.PathDisplay.fmt.Given as goal

@@ -1,4 +1,4 @@
--- What lasts still holds, since a push leaves a state that pushes reach.
+-- The property `lasts` still holds, since a push leads to a state that pushes reach.
 use Rattle.std.proofs.Math.Logic.{∥∥₁_map₂}
 use Rattle.postcard_ser.proofs.collect_str.FmtWriterWrite.write_str.Goals as goal
 

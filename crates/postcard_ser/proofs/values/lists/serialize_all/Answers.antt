@@ -1,4 +1,4 @@
--- A piece more is written, or refused; and so are the elements that are left.
+-- One piece more is written, and then the elements that are left. Or it is refused, and so is the list.
 use Rattle.std.proofs.lemmas.List.{take_rest}
 use Rattle.postcard_ser.proofs.Pieces.{written_none, written_more, written_stop, written_end, written_some, written_refused, written_whole, written_fits, written_whole_fits, block_shortens, some_shorten}
 use Rattle.postcard_ser.proofs.PartByPart.{wrote_err}

@@ -1,4 +1,4 @@
--- The elements before those that are left are written, and fit; a block takes some away.
+-- The elements before those that are left are written, and fit. Each block makes the remaining list shorter.
 use Rattle.std.proofs.Common.{length}
 use Rattle.postcard_ser.proofs.Pieces.{Written}
 use Rattle.postcard_ser.proofs.values.lists.serialize_all.Given as goal

@@ -1,4 +1,4 @@
--- What follows the checksum of the bytes taken.
+-- The remaining bytes begin with the checksum of the bytes taken, and the result is the bytes after it. Otherwise the call fails.
 use Rattle.std.proofs.Common.{List, ℕ, subst}
 use Rattle.postcard_crc.specs.Source.{Finishes}
 use Rattle.postcard_crc.proofs.Ending.{finishes}
