@@ -1,0 +1,9 @@
+use Rattle.std.proofs.Common.{◌∙◌}
+use Rattle.postcard_schema.specs.Views.{view}
+use Rattle.postcard_schema_message.proofs.Alike.{nodes_same}
+use Rattle.postcard_schema_message.proofs.Rows.{one_view}
+use Rattle.postcard_schema_message.proofs.laws.comes_back.Goals as goal
+
+pub returns : goal.returns
+returns c s back sent read nodes same built =
+    one_view (view back) (view s) (built ∙ nodes_same read.items sent.items same ∙ nodes)
