@@ -26,7 +26,7 @@ pub fn view_has_type()
 /// and the host read nodes that look like these, as `postcard::laws::comes_back` says. Then the
 /// schema that the host builds from them has the view of `s`.
 pub fn comes_back()
-    ensures { (s back : Schema) (sent read : Vec NodeType Global)
+    ensures same_schema { (s back : Schema) (sent read : Vec NodeType Global)
         → node_views sent.items ≡ preorder (view s)
         → ⟦<Vec<Node> as Shaped>⟧.shape.same read sent
         → preorder (view back) ≡ node_views read.items → view back ≡ view s }
