@@ -7,3 +7,4 @@ pub mod Made
 pub mod ByKind
 pub mod Built
 pub mod Whole
+pub mod Alike

@@ -37,8 +37,8 @@ pub const MAX_DEPTH: usize = 384;
 /// # Examples
 ///
 /// ```text
-/// let nodes = nodes_of(alloc, &schema)?;
-/// let back = schema_of(alloc, nodes)?;
+/// let nodes: Vec<Node> = from_bytes(alloc, &message)?;
+/// let schema = schema_of(alloc, nodes)?;
 /// ```
 pub fn schema_of(alloc: Global, mut nodes: Vec<Node>) -> Result<Schema, Problem>
     ensures sent { IfOk result (λ schema. preorder (view schema) ≡ node_views nodes.items) }

@@ -20,8 +20,8 @@ use std::alloc::{AllocError, Global};
 /// # Examples
 ///
 /// ```text
-/// let schema = parse(alloc, "{id: u16, label: str}")?;
-/// let nodes = nodes_of(alloc, &schema)?;
+/// let nodes = nodes_of(alloc, &Reading::schema(alloc)?)?;
+/// let message = to_allocvec(alloc, &nodes)?;
 /// ```
 pub fn nodes_of(alloc: Global, schema: &Schema) -> Result<Vec<Node>, AllocError>
     ensures { IfOk result (λ nodes. node_views nodes.items ≡ preorder (view schema.now)) }
