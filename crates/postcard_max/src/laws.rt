@@ -36,7 +36,8 @@ pub fn within_max_size<T: MaxSize>(value: &T)
     value.in_forms();
 }
 
-/// The greatest size of each type, and that it is reached if those of the type's parts are.
+/// States the greatest size of each type, and that it is reached if the sizes of the type's parts
+/// are.
 ///
 /// A size is `None` if that of a part is, or if the sum or the product does not fit 64 bits.
 pub fn table<
