@@ -10,7 +10,7 @@ use pcard_print::{Notation, PrintError, quote};
 use std::alloc::{AllocError, Global};
 use std::io::Write;
 
-/// What a row says of bytes that are no part of a value.
+/// The meaning of bytes that are no part of a value.
 #[derive(Clone, Copy)]
 pub(crate) enum Note<'a> {
     /// The checksum with this name, of a message.

@@ -90,7 +90,7 @@ fn noun(count: u64) -> &'static str
     if count == 1 { "element" } else { "elements" }
 }
 
-/// What is expected where a part can't be read, which is printed in a few words.
+/// The expected part where none can be read. It is printed in a few words.
 #[derive(Clone, Copy)]
 pub(crate) struct Awaited(pub Expected);
 

@@ -84,7 +84,7 @@ pub fn print_frames_of<W: Write>(
     stream.take(alloc, format, bytes, output)
 }
 
-/// What is kept of a stream between two reads. Its methods and the functions below fail as
+/// The state of a stream between two reads. Its methods and the functions below fail as
 /// [`print_frames`] does.
 #[derive(Drop)]
 struct Stream {

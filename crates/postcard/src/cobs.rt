@@ -191,7 +191,7 @@ pub fn to_allocvec_cobs<T: Serialize>(alloc: Global, value: &T) -> Result<Vec<u8
     framed(value, AllocVec::new(alloc))
 }
 
-/// [`to_allocvec_cobs`] under the name that the Rust crate has for `std`.
+/// Does what [`to_allocvec_cobs`] does. It is the Rust crate's name for `std`.
 ///
 /// # Examples
 ///

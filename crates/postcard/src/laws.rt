@@ -15,7 +15,7 @@ use postcard_ser::Serialize;
 use postcard_wire::Result;
 use std::alloc::Global;
 
-/// What was encoded is decoded, whatever bytes follow. Let bytes begin with the canonical encoding
+/// An encoding is decoded again, whatever bytes follow. Let bytes begin with the canonical encoding
 /// of a tree that the type reads. They are read as a value of that tree, and just the bytes after
 /// the encoding are left.
 pub fn decodes_encoded<'a, T: Deserialize<'a>>()

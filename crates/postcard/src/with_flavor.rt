@@ -98,7 +98,7 @@ pub fn to_allocvec<T: Serialize>(alloc: Global, value: &T) -> Result<Vec<u8>>
     Ok(vec)
 }
 
-/// [`to_allocvec`] under the name that the Rust crate has for `std`.
+/// Does what [`to_allocvec`] does. It is the Rust crate's name for `std`.
 ///
 /// # Examples
 ///

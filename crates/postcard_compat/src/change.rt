@@ -6,7 +6,7 @@ ghost use Rattle.postcard_compat.specs.{is_move};
 use postcard_schema::{Integer, Leaf, Schema};
 use std::fmt;
 
-/// What a part is. It is printed as the name of a type without parts, or as one word.
+/// The kind of a part. It is printed as the name of a type without parts, or as one word.
 #[derive(Clone, Copy, Debug)]
 pub enum Kind {
     Leaf(Leaf),

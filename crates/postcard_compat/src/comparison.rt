@@ -46,7 +46,7 @@ pub struct Comparison {
     pub example: Option<Example>,
 }
 
-/// What is known of two types without an example.
+/// The relation of two types, as it is known without an example.
 #[derive(Clone, Copy)]
 enum Relation {
     /// The new type reads each message of the old one as the same.
@@ -58,7 +58,7 @@ enum Relation {
     Unknown,
 }
 
-/// What an example shows. The later ones are better examples.
+/// The meaning of an example. The later ones are better examples.
 #[derive(Clone, Copy)]
 enum Outcome {
     /// Bytes are left.

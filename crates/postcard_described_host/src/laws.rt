@@ -19,7 +19,7 @@ pub fn host_reads<T: HasSchema>()
         → Agree T.shape device host }
 {}
 
-/// What a device writes, a host that has only the schema reads as a value of the same tree. The
+/// A host that has only the schema reads what a device writes, as a value of the same tree. The
 /// type need not be exact. The host leaves the bytes that follow. If it writes the value back, it
 /// writes the same bytes.
 pub fn host_reads_written<T: HasSchema>()

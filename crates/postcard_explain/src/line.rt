@@ -3,7 +3,7 @@
 use postcard_schema::{Leaf, Schema};
 use postcard_value::Value;
 
-/// What a part is called in the value around it.
+/// The name of a part in the value around it.
 #[derive(Clone, Copy, Debug)]
 pub enum Label<'a> {
     /// The value as a whole, or the content of an option or a variant.
@@ -30,7 +30,7 @@ pub enum Expected {
     Variant,
 }
 
-/// What the bytes of a line are.
+/// The meaning of a line's bytes.
 #[derive(Debug, Drop)]
 pub enum LineKind<'a> {
     /// A value without parts, and its type.
@@ -53,14 +53,14 @@ pub enum LineKind<'a> {
     AfterValue,
 }
 
-/// Some bytes of a message, and what they are.
+/// Some bytes of a message, and their meaning.
 #[derive(Debug, Drop)]
 pub struct Line<'a> {
     /// How many values around this part have a line of their own.
     pub depth: usize,
-    /// What the part is called.
+    /// The name of the part.
     pub label: Label<'a>,
-    /// What the bytes are.
+    /// The meaning of the bytes.
     pub kind: LineKind<'a>,
     /// The bytes.
     pub bytes: &'a [u8],

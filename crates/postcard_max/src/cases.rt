@@ -47,14 +47,14 @@ impl<A: MaxSize, R: MaxCases> MaxCases for Case<A, R> {
     ghost lawful = { case_lawful A.lawful R.lawful };
 }
 
-/// The size of one variant with its index, or `None` if it does not fit `usize`.
+/// Returns the size of one variant with its index, or `None` if it does not fit `usize`.
 fn case_size<A: MaxSize>(index: Option<usize>) -> Option<usize>
     ensures { result ≡ sum_of (len_of index) A.limit.greatest }
 {
     sum(index_len(index), A::postcard_max_size())
 }
 
-/// The number of bytes of an index, or `None` if there is no index.
+/// Returns the number of bytes of an index, or `None` if there is no index.
 fn index_len(index: Option<usize>) -> Option<usize>
     ensures { result ≡ len_of index }
 {

@@ -40,7 +40,7 @@ pub fn within_max_size<T: MaxSize>(value: &T)
     value.in_forms();
 }
 
-/// The greatest sizes of `bool`, integers, `char`, floats, the unit and `PhantomData`.
+/// States the greatest sizes of `bool`, integers, `char`, floats, the unit and `PhantomData`.
 pub fn numbers<A: MaxSize>()
     ensures of_bool { IsSize ⟦<bool as MaxSize>⟧.limit (Some 1) ⊤ }
     ensures of_u8 { IsSize ⟦<u8 as MaxSize>⟧.limit (Some 1) ⊤ }
@@ -62,7 +62,7 @@ pub fn numbers<A: MaxSize>()
     ensures phantom { IsSize ⟦<PhantomData<A> as MaxSize>⟧.limit (Some 0) ⊤ }
 {}
 
-/// The greatest sizes of the types of integers without zero.
+/// States the greatest sizes of the types of integers without zero.
 pub fn nonzero()
     ensures nonzero_u8 { IsSize ⟦<NonZeroU8 as MaxSize>⟧.limit (Some 1) ⊤ }
     ensures nonzero_u16 { IsSize ⟦<NonZeroU16 as MaxSize>⟧.limit (Some 3) ⊤ }
@@ -78,7 +78,7 @@ pub fn nonzero()
     ensures nonzero_isize { IsSize ⟦<NonZeroIsize as MaxSize>⟧.limit (Some 10) ⊤ }
 {}
 
-/// The greatest sizes of `Option`, `Result` and `Bound`, which have an index before the value.
+/// States the greatest sizes of `Option`, `Result` and `Bound`, which have an index before the value.
 pub fn options<A: MaxSize, B: MaxSize>()
     ensures option { IsSize ⟦<Option<A> as MaxSize>⟧.limit (sum_of (Some 1) A.limit.greatest)
         A.limit.reached }
@@ -89,7 +89,7 @@ pub fn options<A: MaxSize, B: MaxSize>()
         (sum_of (Some 1) A.limit.greatest) A.limit.reached }
 {}
 
-/// The greatest sizes of tuples: the sums of those of the parts.
+/// States the greatest sizes of tuples: the sums of those of the parts.
 pub fn tuples<
     A: MaxSize,
     B: MaxSize,
@@ -163,7 +163,7 @@ pub fn tuples<
         × L.limit.reached × M.limit.reached) }
 {}
 
-/// The greatest sizes of ranges, and of `Duration`.
+/// States the greatest sizes of ranges, and of `Duration`.
 pub fn ranges<A: MaxSize>()
     ensures duration { IsSize ⟦<Duration as MaxSize>⟧.limit (Some 15) ⊤ }
     ensures range { IsSum ⟦<Range<A> as MaxSize>⟧.limit
@@ -176,7 +176,7 @@ pub fn ranges<A: MaxSize>()
         (A.limit.greatest ∷ []) A.limit.reached }
 {}
 
-/// The greatest sizes of wrappers, boxes and references: those of what they hold.
+/// States the greatest sizes of wrappers, boxes and references: those of what they hold.
 pub fn wrappers<A: MaxSize>()
     ensures wrapping { IsSize ⟦<Wrapping<A> as MaxSize>⟧.limit A.limit.greatest A.limit.reached }
     ensures saturating { IsSize ⟦<Saturating<A> as MaxSize>⟧.limit A.limit.greatest A.limit.reached }
@@ -190,7 +190,7 @@ pub fn wrappers<A: MaxSize>()
     ensures mutable { IsSize ⟦<&'static mut A as MaxSize>⟧.limit A.limit.greatest A.limit.reached }
 {}
 
-/// The greatest sizes of addresses of the Internet.
+/// States the greatest sizes of addresses of the Internet.
 pub fn addresses()
     ensures ipv4 { IsSize ⟦<Ipv4Addr as MaxSize>⟧.limit (Some 4) ⊤ }
     ensures ipv6 { IsSize ⟦<Ipv6Addr as MaxSize>⟧.limit (Some 16) ⊤ }
@@ -200,7 +200,7 @@ pub fn addresses()
     ensures socket { IsSize ⟦<SocketAddr as MaxSize>⟧.limit (Some 20) ⊤ }
 {}
 
-/// The greatest sizes of arrays, and of vectors and strings with a capacity.
+/// States the greatest sizes of arrays, and of vectors and strings with a capacity.
 pub fn capacities<A: MaxSize, const N: usize>()
     ensures array { IsSize ⟦<[A; N] as MaxSize>⟧.limit (times N A.limit.greatest) A.limit.reached }
     ensures vector { IsSize ⟦<ArrayVec<A, N> as MaxSize>⟧.limit

@@ -23,8 +23,8 @@ pub trait Serialize: Shaped {
     /// is refused if a part of it is. If the flavor has room for the encoding, no other error is
     /// returned.
     ///
-    /// What the flavor took before the error stays in it. Over a tidy flavor that is a prefix of
-    /// the encoding, which may be empty. If a value is refused, it may be other bytes.
+    /// The bytes that the flavor took before the error stay in it. Over a tidy flavor they are a
+    /// prefix of the encoding, which may be empty. If a value is refused, they may be other bytes.
     fn serialize<F: Flavor>(&self, serializer: &mut Serializer<F>) -> Result<()>
         ensures wrote { Wrote F.Flavor serializer.old.output (canonical (Self.shape.tree self.now))
             (Self.shape.refusal self.now) Self.shape.text result serializer.new.output }

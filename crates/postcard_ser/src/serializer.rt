@@ -34,7 +34,8 @@ use postcard_wire::{Error, Result};
 /// own error is. Only in the text of `collect_str` the error is `CollectStrError`. A call for a
 /// part of a value also fails as that part's own `serialize` does. A list or a map without a length
 /// fails with `SerializeSeqLengthUnknown`, before anything is written. A call that writes nothing
-/// never fails. What the flavor took before the error stays in it, as `Serialize::serialize` says.
+/// never fails. The bytes that the flavor took before the error stay in it, as
+/// `Serialize::serialize` says.
 #[derive(Drop)]
 pub struct Serializer<F: Flavor> {
     /// The flavor that the bytes go to.

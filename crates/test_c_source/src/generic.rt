@@ -5,7 +5,7 @@ ghost use Rattle.std.specs.Prelude.{◌≤◌};
 
 /// A rule by which numbers are joined.
 trait Join {
-    /// What is joined.
+    /// The type of the parts that are joined.
     type Part: Copy;
     /// Returns a part of a number.
     fn part(&self, n: u64) -> Self::Part;

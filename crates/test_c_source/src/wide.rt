@@ -1,6 +1,6 @@
 //! The operations on numbers of 128 bits, which C passes as their lower and higher 64.
 
-/// A number of 128 bits by its halves.
+/// Returns the number of 128 bits with these halves.
 fn joined(low: u64, high: u64) -> u128 {
     u128::from(low) | (u128::from(high) << 64)
 }

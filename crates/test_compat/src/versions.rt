@@ -3,8 +3,9 @@
 use crate::rows::{Row, check};
 use postcard_compat::Verdict::{Differs, Front, Misread, Refuses, Same};
 
-/// What a sensor sends. A number is widened, a field added, one renamed, and two put into a struct.
-/// A list is added, its elements widened, an option added, the option made an enum, and a field moved.
+/// The messages of a sensor. A number is widened, a field added, one renamed, and two put into a
+/// struct. A list is added, its elements widened, an option added, the option made an enum, and a
+/// field moved.
 const TELEMETRY: [Row<'static>; 9] = [
     (
         "{id: u16, temp: i16}",
@@ -65,9 +66,9 @@ const TELEMETRY: [Row<'static>; 9] = [
     ),
 ];
 
-/// What a host sends. A variant is added, a number widened, a variant renamed, one added, and a
-/// content made a struct. An option becomes an enum, two variants are moved, a sign is added, and a
-/// variant is added.
+/// The messages of a host. A variant is added, a number widened, a variant renamed, one added, and
+/// a content made a struct. An option becomes an enum, two variants are moved, a sign is added, and
+/// a variant is added.
 const COMMANDS: [Row<'static>; 9] = [
     (
         "Stop | SetRate(u16)",

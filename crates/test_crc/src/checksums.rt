@@ -20,7 +20,7 @@ fn same<W: Width>(rt: &impl Abort, crc: &Crc<W>, bytes: &[u8], want: W) {
     assert!(rt; pieces == want.to_u128());
 }
 
-/// One algorithm for each type of checksums, and one that isn't reflected.
+/// Tests one algorithm for each type of checksums, and one that isn't reflected.
 #[test]
 fn check_values(rt: HostRuntime) {
     same(&rt, &Crc::new(&CRC_8_MAXIM_DOW), TEXT, 0xa1);
@@ -36,7 +36,8 @@ fn check_values(rt: HostRuntime) {
     );
 }
 
-/// With another initial value, CRC-16/XMODEM is CRC-16/IBM-3740, whose check value is 29b1.
+/// Tests another initial value: with it, CRC-16/XMODEM is CRC-16/IBM-3740, whose check value is
+/// 29b1.
 #[test]
 fn another_initial_value(rt: HostRuntime) {
     let crc: Crc<u16> = Crc::new(&CRC_16_XMODEM);

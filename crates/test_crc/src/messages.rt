@@ -221,7 +221,7 @@ fn passing_64(alloc: Global, crc: &Crc<u64>, message: [u8; 8]) -> Result<u64, Er
     Ok(passing)
 }
 
-/// The sixteen bytes of a number, the lowest first, and four zeros.
+/// Returns the sixteen bytes of a number, the lowest first, and four zeros.
 fn with_zeros(number: u128) -> [u8; 20] {
     let mut bytes = [0; 20];
     bytes[..16].copy_from_slice(&number.to_le_bytes());

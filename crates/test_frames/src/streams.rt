@@ -116,7 +116,7 @@ fn lists(rt: HostRuntime) {
     );
 }
 
-/// A record of 143 bytes without a zero, in a frame of 145.
+/// Tests a record of 143 bytes without a zero, in a frame of 145.
 #[test]
 fn a_long_record(rt: HostRuntime) {
     let word = [0xE7, 0x8A, 0x8D, 0x09].as_slice();

@@ -76,7 +76,7 @@ fn keys_of_types(rt: HostRuntime) {
     }
 }
 
-/// An enum without variants, which no expression has.
+/// Tests an enum without variants, which no expression denotes.
 #[test]
 fn keys_of_no_variants(rt: HostRuntime) {
     let never = Schema::Enum(Vec::new(rt.alloc()));

@@ -222,7 +222,7 @@ fn pops<T: Over>(rt: &impl Abort) {
     assert_popped(rt, &mut source, Err(END));
 }
 
-/// A take for good uses up its scratch.
+/// Takes for good from too short an input. The take uses up its scratch.
 fn input_too_short<T: Over>(rt: &impl Abort) {
     let mut memory = [0; 4];
     let mut source = IOReader::new(T::over(&[1, 2]), &mut memory);
@@ -230,7 +230,7 @@ fn input_too_short<T: Over>(rt: &impl Abort) {
     assert_room(rt, source, 1);
 }
 
-/// A take until the next call leaves the scratch whole.
+/// Takes until the next call from too short an input. The scratch stays whole.
 fn input_too_short_to_lend<T: Over>(rt: &impl Abort) {
     let mut memory = [0; 4];
     let mut source = IOReader::new(T::over(&[1, 2]), &mut memory);

@@ -238,7 +238,7 @@ fn in_other_values(rt: HostRuntime) {
     same(&rt, number.map(BE::get), Some(5));
 }
 
-/// The count 300 and 300 numbers of 32 bits from 0x09070000 on, the lowest byte first.
+/// Returns the count 300 and 300 numbers of 32 bits from 0x09070000 on, the lowest byte first.
 fn three_hundred() -> [u8; 1202] {
     let mut bytes = [0; 1202];
     bytes[0] = 0xAC;

@@ -176,7 +176,7 @@ fn chain(rt: &(impl Abort + AllocGlobal), numbers: &[u16]) -> Chain {
     }
 }
 
-/// The encoding of a chain of 32 zeros.
+/// Returns the encoding of a chain of 32 zeros.
 fn zeros() -> [u8; 65] {
     let mut zeros = [0; 65];
     for link in 0..32usize {

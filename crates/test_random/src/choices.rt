@@ -3,7 +3,7 @@
 use std::alloc::Global;
 use std::time::Duration;
 
-/// Where values come from: random choices, or bytes that encode them. Each method returns `None` if
+/// A source of values: random choices, or bytes that encode them. Each method returns `None` if
 /// there is no such part, or if an allocation fails.
 pub(crate) trait Choices {
     /// Returns the allocator for values that allocate.

@@ -37,8 +37,8 @@ impl Choices for Plain<'_> {
         Some(*first)
     }
 
-    /// The low 7 bits of each byte are a digit, the lowest first. The high bit is set if another
-    /// digit follows. There are no more digits than the greatest number needs.
+    /// Takes a varint. The low 7 bits of each byte are a digit, the lowest first. The high bit is
+    /// set if another digit follows. There are no more digits than the greatest number needs.
     fn number(&mut self, most: u128) -> Option<u128> {
         let mut number = 0u128;
         let mut unit = 1u128;
@@ -57,7 +57,7 @@ impl Choices for Plain<'_> {
         None
     }
 
-    /// One byte, 0 or 1.
+    /// Takes one byte, 0 or 1.
     fn flag(&mut self) -> Option<bool> {
         match self.byte()? {
             0 => Some(false),
@@ -66,31 +66,32 @@ impl Choices for Plain<'_> {
         }
     }
 
-    /// A number of 32 bits.
+    /// Takes a varint of 32 bits.
     fn variant(&mut self, count: u32) -> Option<u32> {
         let index = u32::try_from(self.number(0xFFFF_FFFF)?).ok()?;
         if index < count { Some(index) } else { None }
     }
 
-    /// A number of 64 bits.
+    /// Takes a varint of 64 bits.
     fn count(&mut self, most: usize) -> Option<usize> {
         let count = usize::try_from(self.number(0xFFFF_FFFF_FFFF_FFFF)?).ok()?;
         if count <= most { Some(count) } else { None }
     }
 
-    /// The first character of a string of at most four bytes.
+    /// Takes a string of at most four bytes, and returns its first character.
     fn character(&mut self) -> Option<char> {
         let len = self.count(4)?;
         self.utf8(len)?.chars().next()
     }
 
-    /// The number of bytes, and then the bytes.
+    /// Takes the number of bytes, and then the bytes.
     fn text(&mut self, most: usize) -> Option<String> {
         let len = self.count(most)?;
         String::from_str(self.alloc, self.utf8(len)?).ok()
     }
 
-    /// The seconds and the nanoseconds. Each thousand million nanoseconds are one more second.
+    /// Takes the seconds and the nanoseconds. Each thousand million nanoseconds are one more
+    /// second.
     fn duration(&mut self) -> Option<Duration> {
         let secs = u64::try_from(self.number(0xFFFF_FFFF_FFFF_FFFF)?).ok()?;
         let nanos = u32::try_from(self.number(0xFFFF_FFFF)?).ok()?;

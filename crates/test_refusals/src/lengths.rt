@@ -107,8 +107,8 @@ fn of_lists_and_texts(rt: HostRuntime) {
     }
 }
 
-/// The list of the numbers below the length, and the map of each of them to `true`. Each number is
-/// its varint, and `true` the byte 1.
+/// Tests the list of the numbers below the length, and the map of each of them to `true`. Each
+/// number is its varint, and `true` the byte 1.
 #[test]
 fn of_maps_and_lists_of_numbers(rt: HostRuntime) {
     let mut acc = CobsAccumulator::<4096>::new();

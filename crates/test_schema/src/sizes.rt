@@ -37,7 +37,7 @@ fn check_sizes(
     }
 }
 
-/// `Boot | Reading(u16, i32) | Level{x: u64}`.
+/// Tests `Boot | Reading(u16, i32) | Level{x: u64}`.
 #[test]
 fn measures_an_enum(rt: HostRuntime) {
     let unit = Schema::Tuple(Vec::new(rt.alloc()));
@@ -57,7 +57,7 @@ fn measures_an_enum(rt: HostRuntime) {
     check(&rt, &Schema::Enum(variants), 1, Some(11), &[]);
 }
 
-/// `{id: f32, table: {str => (u8, bytes)}, log: [str]?}`.
+/// Tests `{id: f32, table: {str => (u8, bytes)}, log: [str]?}`.
 #[test]
 fn finds_the_endless_parts(rt: HostRuntime) {
     let id = Schema::Leaf(Leaf::Float(Float::F32));
@@ -74,7 +74,7 @@ fn finds_the_endless_parts(rt: HostRuntime) {
     check(&rt, &schema, 6, None, &endless);
 }
 
-/// `[(str, char); 2]` and `[str; 0]`.
+/// Tests `[(str, char); 2]` and `[str; 0]`.
 #[test]
 fn measures_arrays(rt: HostRuntime) {
     let element = boxed(&rt, pair(&rt, Leaf::Str, Leaf::Char));

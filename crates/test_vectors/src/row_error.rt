@@ -33,7 +33,7 @@ impl fmt::Display for Reason {
     }
 }
 
-/// What is wrong with a line of the table.
+/// An error of a line of the table.
 #[derive(Drop)]
 pub enum RowError {
     /// The line is not a row.

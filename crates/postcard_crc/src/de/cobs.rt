@@ -50,7 +50,7 @@ pub fn from_bytes_cobs<'a, T: Deserialize<'a>, W: Width, I: Implementation<W>>(
     read_checked(alloc, front, data_len, digest)
 }
 
-/// What decoding in place leaves: the whole buffer, and where its parts end.
+/// The result of decoding in place: the whole buffer, and the lengths of its parts.
 struct DecodedFrame<'a> {
     all: &'a mut [u8],
     /// The length of the frame without the zero that ends it. It is 0 if the frame has no data.

@@ -16,7 +16,7 @@ use postcard_wire::Result;
 #[derive(Drop)]
 pub struct CrcModifier<'de, B, W: Width, I: Implementation<W> = Table<W>> {
     pub flavor: B,
-    /// What has taken the bytes so far; its `finalize` is their checksum.
+    /// The digest of the bytes so far. Its `finalize` is their checksum.
     pub digest: Digest<'de, W, I>,
 }
 

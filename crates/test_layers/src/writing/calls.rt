@@ -76,7 +76,8 @@ fn call_for_variants(rt: &impl Abort, serializer: &mut Serializer<Slice>) {
     assert_done(rt, &answers);
 }
 
-/// The last call is the one that the impl of a user's enum makes.
+/// Calls the serializer for variants with named fields. The last call is the one that the impl of a
+/// user's enum makes.
 fn call_for_struct_variants(rt: &impl Abort, serializer: &mut Serializer<Slice>) {
     let answers = [
         serializer.serialize_struct_variant("Kind", u32::MAX, "Last", 1),

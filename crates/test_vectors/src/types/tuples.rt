@@ -38,7 +38,7 @@ fn longer(alloc: Global, row: &Row<'_>) -> Outcome {
     }
 }
 
-/// No type has another name.
+/// Checks a row of a range. No type has another name.
 fn ranges(alloc: Global, row: &Row<'_>) -> Outcome {
     match row.name {
         "Bound<u16>" => sized::<Bound<u16>>(alloc, row),
