@@ -17,7 +17,7 @@ use Rattle.pcard_explain.specs.Rows.{PrintsLine, PrintsLineIn, PrintsLines}
 use Rattle.pcard_explain.specs.Told.{object_text, told_text}
 use Rattle.pcard_explain.specs.declared.layout.Layout.{Layout}
 
--- The lines after others, the last first.
+-- The lines so far, with the last line first.
 abbrev pub seen_after : List Line → List Line → List Line
 seen_after seen [] = seen
 seen_after seen (line ∷ lines) = seen_after (line ∷ seen) lines
@@ -38,7 +38,7 @@ line_at layout n path line old new h =
       by_notation Text h = rw same at h
       by_notation Json h = rw same at h
 
--- A row after nothing.
+-- A row is printed if nothing is printed before it.
 after_nothing : (layout : Layout) (n : ℕ) (path : List ℕ) (line : Line) (old mid new : Option (List ℕ)) → Appends old mid [] → PrintsLine layout n path line mid new
     → PrintsLine layout n path line old new
 after_nothing layout n path line old mid new none h = by_notation layout.notation h where
