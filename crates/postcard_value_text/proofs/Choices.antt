@@ -247,7 +247,7 @@ one_index ns i k name n differ h low here is =
 below_or_at : (k i : ℕ) → k < i + 1 → (k < i) ⊎ (k ≡ i)
 below_or_at k i low = grind (arith, low)
 
--- One more variant without the name.
+-- If neither the variants before index i nor variant i has the name, no variant before i + 1 has it.
 pub not_called_more : (name : List ℕ) (ns : List (Named Schema)) (i : ℕ) (n : Named Schema) → i < length ns → ((k : ℕ) (m : Named Schema) → k < i → m ≡ get_or ns k m → string_bytes m.name ≢ name)
     → n ≡ get_or ns i n → string_bytes n.name ≢ name → (k : ℕ) (m : Named Schema) → k < i + 1 → m ≡ get_or ns k m → string_bytes m.name ≢ name
 not_called_more name ns i n within before here none k m low is = elim (below_or_at k i low) [
