@@ -137,8 +137,8 @@ pub flat_within : {e d : Type 0} {K L : Trees → Type 0} (ms ns : List MessageT
     → RowWithin (e × d) (IsThen (IsGroup K) L) (reads_all (row_of (ms ++ ns)))
 flat_within ms ns h k = record { inside = flat_inside ms ns h.inside k.inside; all = λ x. flat_all ms ns (h.all x.0) (k.all x.1) }
 
--- The lemmas `.._map`: if each tree of F is one of G, the same holds of the sets of options, lists, arrays, groups and variants over F and
--- G. The lemmas `.._same` follow, for equal sets.
+-- The lemmas `.._map`: if each tree of F is one of G, the same holds of the options, lists, arrays, groups and variants of both. The lemmas
+-- `.._same` follow, for equal sets.
 option_map : {F G : Tree → Type 0} → ((t : Tree) → F t → G t) → (t : Tree) → IsOption F t → IsOption G t
 option_map h t (inl e) = inl e
 option_map h t (inr (s, e, r)) = inr (s, e, h s r)

@@ -1,4 +1,4 @@
--- The rows of the table that need a proof by hand: long tuples, and an end of a range, which is an index and a value.
+-- The rows of the table that need a proof by hand: long tuples, and an end of a range.
 use Rattle.std.proofs.Common.{refl, arith}
 use Rattle.postcard_max.proofs.Greatest.{greatest_of_bound}
 use Rattle.postcard_max.proofs.laws.table.Goals as goal
