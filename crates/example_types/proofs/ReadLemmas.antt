@@ -29,7 +29,7 @@ LinkIs m n w = IsThen (λ t. t ≡ Num 16 n) (IsThen (λ t. (chain_shape m).valu
 abbrev pub LinkErrors : ℕ → Error → Type 0
 LinkErrors m = either never (either (chain_shape m).other never)
 
--- The errors of the variants of a chain, of which the first has no parts, and the second these.
+-- The errors of the variants of a chain. The first variant has no parts, and the second has these.
 abbrev pub VariantErrors : ℕ → Error → Type 0
 VariantErrors m = either never (either (LinkErrors m) never)
 

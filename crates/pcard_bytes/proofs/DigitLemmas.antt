@@ -82,11 +82,11 @@ pub record IsBefore (text bytes rest : List ℕ) : Type 0 where
   pub decoded : decode_pairs 0 text ≡ prepend bytes (decode_pairs place rest)
   pub parity : length text % 2 ≡ length rest % 2
 
--- It holds before the first byte is read.
+-- The invariant of the loop holds before the first byte is read.
 pub before-start : (text : List ℕ) → IsBefore text [] text
 before-start text = record { place = 0; decoded = prepend-nil (decode_pairs 0 text); parity = refl }
 
--- It holds after one more byte is read.
+-- The invariant holds after one more byte is read.
 pub before-step : (text bytes rest xs : List ℕ) → IsBefore text bytes rest → 2 ≤ length rest
     → decode_sized (take 2 rest) 1 ≡ Ok xs → IsBefore text (bytes ++ slice_index xs 0 ∷ []) (drop 2 rest)
 before-step text bytes rest xs before two ok = record {

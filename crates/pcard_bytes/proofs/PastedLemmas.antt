@@ -38,7 +38,7 @@ bytes_none Is IsWrong none (x ∷ xs) a n (inr (g, m, other, place, wrong)) (f, 
 word_one : (x a b : List ℕ) → IsWord x a → IsWord x b → a ≡ b
 word_one x a b h k = cc
 
--- What fails is no success.
+-- A result that is an error is no success.
 failed_not : {A E : Type 0} (r : Result A E) (a : A) → IsErr r → r ≡ Ok a → ⊥
 failed_not (Ok b) a h is = cc h
 failed_not (Err e) a h is = cc is
@@ -95,7 +95,7 @@ pub record IsReadUpTo (Is : List ℕ → List ℕ → Type 0) (IsWrong : List �
   pub wrong : (m : ℕ) → IsWrongAt Is IsWrong (slice_split p rest) m → IsWrongAt Is IsWrong (slice_split p text) (length text - length rest + m)
   pub fits : length rest ≤ length text
 
--- It holds before the first part is read.
+-- The invariant of the loop holds before the first part is read.
 pub up_to-start : (Is : List ℕ → List ℕ → Type 0) (IsWrong : List ℕ → ℕ → Type 0) (p : ℕ → Bool) (text : List ℕ) → IsReadUpTo Is IsWrong p text [] text
 up_to-start Is IsWrong p text = record {
   gives = λ back h. h;
@@ -103,7 +103,7 @@ up_to-start Is IsWrong p text = record {
   fits = omega arith;
 }
 
--- It holds after one more part is read.
+-- The invariant holds after one more part is read.
 up_to-more : (Is : List ℕ → List ℕ → Type 0) (IsWrong : List ℕ → ℕ → Type 0) (p : ℕ → Bool) (text bytes rest front : List ℕ) (i : ℕ)
     → IsReadUpTo Is IsWrong p text bytes rest → position p rest ≡ Some i → Is (take i rest) front → IsReadUpTo Is IsWrong p text (bytes ++ front) (drop (i + 1) rest)
 up_to-more Is IsWrong p text bytes rest front i before is one =
@@ -173,7 +173,7 @@ wrong-other p xs i is =
     let at : position_or_len p xs ≡ i = position_or_len_is p xs i 0 (omega arith) none (λ _. here) in
     rw at (omega arith)
 
--- It is the last if all are digits.
+-- If all bytes are digits, the wrong digit is the last.
 pub wrong-last : (p : ℕ → Bool) (xs : List ℕ) → position p xs ≡ None → length xs - 1 ≡ min (position_or_len p xs) (length xs - 1)
 wrong-last p xs none = let far = none_passes p xs none in omega (arith, far)
 
@@ -245,7 +245,7 @@ line_refused dump line text column place start (Err e) is cut (inr memory) = inr
 pub behind_offset : (line trimmed : List ℕ) → IsTrimAsciiStart (take (length line - 9) (drop 9 line)) trimmed → trimmed ≡ unblank (drop 9 line)
 behind_offset line trimmed trim = trim_is (take (length line - 9) (drop 9 line)) trimmed trim ∙ ap unblank (rest_after 9 line)
 
--- It begins where the bytes do.
+-- The column of a line of `xxd` begins where its bytes do.
 pub xxd-start : (line trimmed : List ℕ) → is_of_xxd line ≡ true → trimmed ≡ unblank (drop 9 line) → length line - length trimmed ≡ start_of line
 unfolding start_of
 xxd-start line trimmed is same = rw (same, is) refl
@@ -257,7 +257,7 @@ xxd-column dump line trimmed is same = rw (same, is) refl
 
 -- ---- the text before a mark
 
--- A byte where the mark doesn't stand is before it.
+-- A byte at which the mark doesn't begin belongs to the text before the mark.
 up_to-cons : (mark : List ℕ) (x : ℕ) (rest : List ℕ) → starts_with nat_eq (x ∷ rest) mark ≡ false → up_to mark (x ∷ rest) ≡ x ∷ up_to mark rest
 unfolding up_to
 up_to-cons mark x rest other = rw other refl
@@ -278,7 +278,7 @@ up_to-none mark text i low other =
     ∙ sym (append_assoc (take i text) (get_or text i 0 ∷ []) (up_to mark (drop (suc i) text)))
     ∙ ap (λ (t : List ℕ). t ++ up_to mark (drop (suc i) text)) (sym (take-suc text i 0 low)))
 
--- It ends where the mark stands.
+-- The text before the mark ends where the mark stands.
 pub up_to-found : (mark text : List ℕ) (i : ℕ) → i < length text → starts_with nat_eq (take (length text - i) (drop i text)) mark ≡ true
     → take i text ++ up_to mark (drop i text) ≡ take i text
 up_to-found mark text i low here =
@@ -288,7 +288,7 @@ up_to-found mark text i low here =
     ∙ ap (λ (t : List ℕ). take i text ++ t) (up_to-here mark (get_or text i 0) (drop (suc i) text) opened)
     ∙ append-nil (take i text)
 
--- A text where the mark stands nowhere is before it.
+-- If the mark stands nowhere in a text, the text before the mark is the whole text.
 pub up_to-all : (mark text : List ℕ) (i : ℕ) → length text ≤ i → take i text ++ up_to mark (drop i text) ≡ text
 unfolding up_to
 up_to-all mark text i far =

@@ -253,6 +253,7 @@ fn checksum_in_u128(algorithm: &Algorithm<u128>, bytes: &[u8]) -> u128
     crc.checksum(bytes)
 }
 
+/// Returns whether two slices have the same bytes.
 fn is_same(found: &[u8], wanted: &[u8]) -> bool
     ensures { IsTrue result ↔ (found.now ≡ wanted.now) }
 {

@@ -120,18 +120,21 @@ fn wrong_digit(digits: &[u8]) -> usize
     }
 }
 
+/// Returns the index of the first byte that is no digit, if there is one.
 fn first_other(digits: &[u8]) -> Option<usize>
     ensures { result ≡ position (λ b. not (is_ascii_hexdigit b)) digits.now }
 {
     digits.iter().position(|byte| !byte.is_ascii_hexdigit())
 }
 
+/// Returns the index of the first separator, if there is one.
 fn end_of_word(text: &[u8]) -> Option<usize>
     ensures { result ≡ position is_separator text.now }
 {
     text.iter().position(|byte| byte.is_ascii_whitespace() || matches!(byte, b':' | b',' | b'-'))
 }
 
+/// Returns the index of the first line feed, if there is one.
 fn end_of_line(text: &[u8]) -> Option<usize>
     ensures { result ≡ position (λ b. b == 10) text.now }
 {
@@ -173,6 +176,7 @@ fn column(line: &[u8], dump: bool) -> (usize, &[u8])
     }
 }
 
+/// Returns whether a line begins as those of `xxd` do.
 #[tactic(auto, unfolding(crate::specs::Hexadecimal::is_of_xxd))]
 fn is_of_xxd(line: &[u8]) -> bool
     ensures is { result ≡ is_of_xxd line.now }
@@ -181,6 +185,7 @@ fn is_of_xxd(line: &[u8]) -> bool
     begins_with_digits(line, 8) && line[8..].starts_with(b": ")
 }
 
+/// Returns whether a line begins as those of `hexdump -C` do.
 #[tactic(auto, unfolding(crate::specs::Hexadecimal::is_of_hexdump))]
 fn is_of_hexdump(line: &[u8]) -> bool
     ensures is { result ≡ is_of_hexdump line.now }

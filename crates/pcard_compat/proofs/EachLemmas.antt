@@ -3,7 +3,7 @@ use Rattle.std.proofs.Common.{◌≡◌, ℕ, ◌+◌, ◌<◌, List, [], ◌∷
 use Rattle.std.proofs.lemmas.List.{append-nil, take_more}
 use Rattle.pcard_compat.specs.Texts.{AreEach}
 
--- One text more.
+-- One item more adds its text.
 pub each_more : {A : Type 0} (P : A → List ℕ → Type 0) (xs : List A) (x : A) (said more : List ℕ) → AreEach P xs said → P x more → AreEach P (xs ++ x ∷ []) (said ++ more)
 each_more P [] x said more none p = (more, [], p, refl, ap (λ (t : List ℕ). t ++ more) none ∙ sym (append-nil more))
 each_more P (y ∷ ys) x said more (first, rest, q, each, is) p =

@@ -87,6 +87,7 @@ fn end_call<W: Write>(outcome: Result<Outcome, PrintError>, output: &mut W) -> u
     }
 }
 
+/// Prints the outcome of a call, and returns the exit status.
 fn print_outcome<W: Write>(outcome: &Outcome, output: &mut W) -> u8
     ensures { PrintsOutcome outcome.now (W.contents output.old) (W.contents output.new) result }
 {

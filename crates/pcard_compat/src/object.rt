@@ -70,6 +70,7 @@ fn object(alloc: Global, difference: &Difference) -> Result<String, AllocError>
     format!(in alloc; "{{\"what\":{what}{field}}}")
 }
 
+/// Returns the member with the example.
 fn example_member(
     alloc: Global,
     writer: Version<'_>,
@@ -92,6 +93,7 @@ fn example_member(
     Ok(member)
 }
 
+/// Returns the members that say what the reader makes of the bytes.
 fn reading_members(
     alloc: Global,
     reader: Version<'_>,

@@ -54,6 +54,7 @@ pub fn outcome_of(
     }
 }
 
+/// Compares two types in both directions, and searches for a type by which a host reads both.
 fn both_ways(
     alloc: Global,
     options: Options,

@@ -49,6 +49,7 @@ pub fn verdict_name(verdict: Verdict) -> &'static str
     }
 }
 
+/// Returns the first line: the verdict's word and its meaning.
 fn first_line(alloc: Global, side: Side, comparison: &Comparison) -> Result<String, AllocError>
     ensures { IfOk result (λ line. string_bytes line ≡ first_line side comparison.now) }
 {
@@ -83,6 +84,7 @@ fn after_name(comparison: &Comparison) -> &'static str
     }
 }
 
+/// Returns a line for each difference.
 fn lines_of(alloc: Global, differences: &[Difference]) -> Result<String, AllocError>
     ensures { IfOk result (λ text. AreEach IsLine differences.now (string_bytes text)) }
 {
@@ -109,6 +111,7 @@ fn place_name(path: &str) -> &str
     if path.is_empty() { "the value" } else { path }
 }
 
+/// Returns the lines of an example.
 fn example_text(
     alloc: Global,
     writer: Version<'_>,
@@ -137,6 +140,7 @@ fn shown(alloc: Global, schema: &Schema, value: &Value) -> Result<String, AllocE
     format!(in alloc; "{value}")
 }
 
+/// Returns the text that says what the reader makes of the bytes.
 fn reading_text(alloc: Global, reader: Version<'_>, example: &Example) -> Result<String, AllocError>
     ensures { IfOk result (λ text. IsReadingText reader.entry example.now.bytes.items
         example.now.reading (string_bytes text)) }
@@ -177,6 +181,7 @@ pub(crate) fn bytes_after(bytes: &[u8], left: usize) -> &[u8]
     &bytes[bytes.len().saturating_sub(left)..]
 }
 
+/// Returns the text for the bytes after a value. Returns nothing if there are none.
 fn more_text(alloc: Global, rest: &[u8]) -> Result<String, AllocError>
     ensures { IfOk result (λ text. string_bytes text ≡ more_text rest.now) }
 {

@@ -8,7 +8,7 @@ use Rattle.pcard_explain.specs.Laws.{group_notes}
 use Rattle.pcard_explain.specs.Notes.{Noted, code, frame_notes, has_zero}
 use Rattle.pcard_explain.proofs.RowLemmas.{in_group}
 
--- The bytes of a group have no rows.
+-- The bytes of a group have no rows of their own, only its code byte has one.
 skipped : (at : ℕ) (group rest : List ℕ) → frame_notes at (length group) (group ++ rest) ≡ frame_notes (at + length group) 0 rest
 skipped at [] rest =
     let same : at ≡ at + 0 = omega arith in

@@ -10,7 +10,7 @@ use Rattle.postcard_explain.specs.declared.line.Line.{Line}
 use Rattle.pcard_explain.specs.Layouts.{bytes_text, longest_of, spaced, spaced_byte}
 use Rattle.pcard_explain.specs.declared.layout.Layout.{Layout}
 
--- One byte more.
+-- Printing one byte more adds its digits and a blank.
 pub spaced_more : (xs : List ℕ) (i : ℕ) → i < length xs → spaced (take (i + 1) xs) ≡ spaced (take i xs) ++ spaced_byte (get_or xs i 0)
 spaced_more xs i low =
     ap spaced (take_more xs i 0 low) ∙ flat_map-append spaced_byte (take i xs) (get_or xs i 0 ∷ [])
@@ -25,7 +25,7 @@ bytes_join (x ∷ xs) ys = ap (λ p. x.bytes.now ++ p) (bytes_join xs ys) ∙ sy
 pub bytes_more : (lines : List Line) (line : Line) → length (bytes_of (lines ++ line ∷ [])) ≡ length (bytes_of lines) + length line.bytes.now
 bytes_more lines line = ap length (bytes_join lines (line ∷ [])) ∙ length-append (bytes_of lines) (line.bytes.now ++ []) ∙ ap (λ p. length (bytes_of lines) + length p) (append-nil line.bytes.now)
 
--- The bytes of one line more.
+-- One line more adds its bytes to the bytes of the lines.
 pub counted_more : (lines : List Line) (i : ℕ) (line : Line) → i < length lines → line ≡ get_or lines i line
     → length (bytes_of (take (i + 1) lines)) ≡ length (bytes_of (take i lines)) + length line.bytes.now
 counted_more lines i line low is =
@@ -35,7 +35,7 @@ longest_join : (lines : List Line) (line : Line) → longest_of (lines ++ line �
 longest_join [] line = omega arith
 longest_join (l ∷ lines) line = omega (arith, longest_join lines line)
 
--- The longest of one line more.
+-- The longest of the lines with one more is the longer of the longest so far and that line.
 pub longest_more : (lines : List Line) (i : ℕ) (line : Line) → i < length lines → line ≡ get_or lines i line
     → longest_of (take (i + 1) lines) ≡ max (longest_of (take i lines)) (length line.bytes.now)
 longest_more lines i line low is =
@@ -43,7 +43,7 @@ longest_more lines i line low is =
 
 -- ---- columns
 
--- A byte has three columns.
+-- A byte in hexadecimal takes three columns.
 pub length-spaced : (xs : List ℕ) → length (spaced xs) ≡ 3 * length xs
 length-spaced [] = refl
 length-spaced (x ∷ xs) =

@@ -11,24 +11,24 @@ use Rattle.pcard_explain.specs.declared.place.Place.{Place}
 
 -- ---- open parts
 
--- One part more at the end.
+-- The steps around a line, if one part more is open at the end.
 last_more : (found : ℕ) (xs : List Open) (o : Open) (d : ℕ) → last_steps found (xs ++ o ∷ []) d ≡ (if nat_lt o.depth d then o.steps else last_steps found xs d)
 last_more found [] o d = refl
 last_more found (x ∷ xs) o d = last_more (if nat_lt x.depth d then x.steps else found) xs o d
 
--- A part at the end that isn't less deep is around no line.
+-- A last part that isn't less deep than the line is not around it.
 pub not_around : (xs : List Open) (o : Open) (d depth : ℕ) → depth ≤ o.depth → d ≤ depth → steps_in (xs ++ o ∷ []) d ≡ steps_in xs d
 not_around xs o d depth deep low =
     let no : nat_lt o.depth d ≡ false = le-ltb o.depth d (omega arith) in
     last_more 0 xs o d ∙ ap (λ (b : Bool). if b then o.steps else steps_in xs d) no
 
--- One that is less deep is.
+-- A last part that is less deep than the line is around it.
 pub is_around : (xs : List Open) (o : Open) (d : ℕ) → o.depth < d → steps_in (xs ++ o ∷ []) d ≡ o.steps
 is_around xs o d less =
     let yes : nat_lt o.depth d ≡ true = lt-ltb o.depth d less in
     last_more 0 xs o d ∙ ap (λ (b : Bool). if b then o.steps else steps_in xs d) yes
 
--- A list with a last part.
+-- A list that isn't empty is its first parts and its last part.
 last_is : (xs : List Open) (o : Open) → 0 < length xs → o ≡ get_or xs (length xs - 1) o → take (length xs - 1) xs ++ o ∷ [] ≡ xs
 last_is xs o some is =
     let i = length xs - 1 in

@@ -17,7 +17,7 @@ use Rattle.pcard_explain.specs.Rows.{PrintsLine, PrintsLineIn, PrintsLines}
 use Rattle.pcard_explain.specs.Told.{object_text, told_text}
 use Rattle.pcard_explain.specs.declared.layout.Layout.{Layout}
 
--- The lines after others, the last first.
+-- The lines so far, with the last line first.
 abbrev pub seen_after : List Line → List Line → List Line
 seen_after seen [] = seen
 seen_after seen (line ∷ lines) = seen_after (line ∷ seen) lines
@@ -38,7 +38,7 @@ line_at layout n path line old new h =
       by_notation Text h = rw same at h
       by_notation Json h = rw same at h
 
--- A row after nothing.
+-- A row is printed if nothing is printed before it.
 after_nothing : (layout : Layout) (n : ℕ) (path : List ℕ) (line : Line) (old mid new : Option (List ℕ)) → Appends old mid [] → PrintsLine layout n path line mid new
     → PrintsLine layout n path line old new
 after_nothing layout n path line old mid new none h = by_notation layout.notation h where
@@ -46,7 +46,7 @@ after_nothing layout n path line old mid new none h = by_notation layout.notatio
   by_notation Text h = if_some_weaken (told_text line) _ _ (λ text r. (r.0, r.1, Appends-trans old mid new [] r.0 none r.2)) h
   by_notation Json h = (h.0, h.1, Appends-trans old mid new [] (object_text (codes "at") n line.bytes.now (field_member path) h.0) none h.2)
 
--- One row more.
+-- One line more adds its row.
 pub lines_more : (layout : Layout) (n : ℕ) (seen lines : List Line) (line : Line) (old mid new : Option (List ℕ)) → PrintsLines layout n seen lines old mid
     → PrintsLine layout (n + length (bytes_of lines)) (plain_text (path_after (seen_after seen lines) line)) line mid new
     → PrintsLines layout n seen (lines ++ line ∷ []) old new
@@ -96,7 +96,7 @@ in_group at left b bytes some =
 pub group_step : (frame : List ℕ) (at left : ℕ) → at < length frame → 0 < left → frame_notes at left (drop at frame) ≡ frame_notes (at + 1) (left - 1) (drop (at + 1) frame)
 group_step frame at left low some = ap (λ (bytes : List ℕ). frame_notes at left bytes) (next_byte frame at low) ∙ in_group at left (get_or frame at 0) (drop (at + 1) frame) some
 
--- Those from a code byte on are the row of this byte, and those from the next byte on.
+-- The rows from a code byte on are the row of this byte, and those from the next byte on.
 pub code_step : (frame : List ℕ) (at left b : ℕ) → at < length frame → left ≡ 0 → b ≡ get_or frame at 0
     → frame_notes at left (drop at frame)
     ≡ record { at = at; bytes = b ∷ []; note = code b (has_zero b (length frame - at - 1)) } ∷ frame_notes (at + 1) (b - 1) (drop (at + 1) frame)

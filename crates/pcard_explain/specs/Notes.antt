@@ -31,7 +31,7 @@ plain_note (notes.Code c zero) = code c zero
 plain_note notes.End = end
 plain_note notes.Beyond = beyond
 
--- As text.
+-- The text of a code byte's zero: that the data has one after the group, or nothing.
 abbrev pub zero_text : Bool → List ℕ
 zero_text zero = if zero then codes ", then a zero" else []
 
@@ -51,7 +51,7 @@ note_text (code c zero) = code_text c zero
 note_text end = codes "end of the frame"
 note_text beyond = codes "after the frame"
 
--- As members of JSON.
+-- The members of a note in a row of JSON.
 abbrev pub note_members : Note → List ℕ
 note_members (checksum name) = codes ",\"checksum\":" ++ quoted name
 note_members after = codes ",\"rest\":true"

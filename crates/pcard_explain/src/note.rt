@@ -65,6 +65,7 @@ fn text_of(alloc: Global, note: Note<'_>) -> Result<String, AllocError>
     }
 }
 
+/// Returns the text of a code byte: its group, and the zero after it if there is one.
 fn code_text(alloc: Global, code: u8, zero: bool) -> Result<String, AllocError>
     ensures { IfOk result (λ text. string_bytes text ≡ code_text code zero) }
 {

@@ -29,12 +29,12 @@ use Rattle.pcard_message.specs.declared.format.Format.{Format}
 
 -- ---- lines, and then nothing
 
--- A text is appended, and then nothing.
+-- Appending a text and then nothing appends the text.
 pub appends_no_more : (old mid new : Option (List ℕ)) (shown : List ℕ) → Appends old mid shown → Appends mid new [] → Appends old new shown
 appends_no_more old mid new shown first none =
     subst (λ (x : List ℕ). Appends old new x) (append-nil shown) (Appends-trans old mid new shown [] first none)
 
--- The line of a value after nothing, and before nothing.
+-- The line of a value is printed if nothing is printed before it or after it.
 pub value_after : (n : Notation) (schema : Schema) (at : ℕ) (v : Value) (rest : List ℕ) (old mid new : Option (List ℕ)) → Appends old mid [] → PrintsValue n schema at v rest mid new
     → PrintsValue n schema at v rest old new
 value_after Text schema at v rest old mid new none h = if_some_weaken (value_text schema v rest) _ _ (λ shown p. Appends-trans old mid new [] shown none p) h
@@ -65,7 +65,7 @@ trailer_some c crc =
     let n = length-take (bytes_for (parameters_of c).width) (to_le_bytes w128 crc) in
     omega arith
 
--- What follows a message takes nothing without a checksum, and some bytes with one.
+-- A message is followed by no bytes without a checksum, and by some bytes with one.
 behind_rest : (o : Option Checksum) (front behind rest : List ℕ) → IsBehind o front behind rest → length rest ≤ length behind
 behind_rest None front behind rest is = let n = ap length is in omega arith
 behind_rest (Some c) front behind rest is = let n = ap length is.2 ∙ length-append (trailer_of c is.0) rest in omega arith
@@ -76,7 +76,7 @@ behind_marked c o front behind rest some is =
     let least = trailer_some c here.0 in
     let n = ap length here.2 ∙ length-append (trailer_of c here.0) rest in omega arith
 
--- They are fewer if there is a checksum, or if messages have bytes.
+-- Fewer bytes are left after a message, if there is a checksum or if messages have bytes.
 data_shorter : (s : Format) (bytes rest : List ℕ) (v : Value) → ((s.checksum ≡ None) × (has_bytes (type_of s.schema) ≡ false) → ⊥) → ReadsData s bytes v rest
     → length rest < length bytes
 data_shorter s bytes rest v some (behind, is, follows) =
@@ -99,7 +99,7 @@ module _ (s : Format) (bytes after : List ℕ) (v : Value) (rest : List ℕ) whe
   in_within true (inr (free, same, is)) = let n = ap length same in omega arith
   in_within false (none, is) = data_within s bytes after v is
 
-  -- What is after a value is some of the bytes.
+  -- The bytes after a value are no more than all bytes.
   pub next_within : IsNext s bytes (value v rest) after → length after ≤ length bytes
   next_within is = in_within s.framed is
 
@@ -108,7 +108,7 @@ module _ (s : Format) (bytes after : List ℕ) (v : Value) (rest : List ℕ) whe
   in_shorter true is_framed some (inr (free, same, is)) = absurd (cc is)
   in_shorter false is_framed some (none, is) = data_shorter s bytes after v (λ h. some (is_framed, h.0, h.1)) is
 
-  -- It is less if messages have bytes.
+  -- The bytes after a value are fewer, if messages have bytes.
   pub next_shorter : (LacksBytes s → ⊥) → IsNext s bytes (value v rest) after → length after < length bytes
   next_shorter some is = in_shorter s.framed refl some is
 

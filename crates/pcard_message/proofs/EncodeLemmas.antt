@@ -16,7 +16,7 @@ use Rattle.pcard_message.specs.declared.format.Format.{Format}
 frame_fits : (xs : List ℕ) → length xs ≤ 4112 → length (made xs) ≤ 4130
 frame_fits xs short = let n = made_length xs in omega arith
 
--- A vector of 4,130 bytes in which nothing but the place of the first code byte is taken has room for it.
+-- A vector of 4,130 bytes has room for that frame, once the place of its first code byte is taken.
 pub frame_room : (t : List ℕ) (start : ℕ) (at : Standing) (failed : Bool) (xs : List ℕ) → length xs ≤ 4112 → HoldsOpen (λ (s : List ℕ). s) t start at failed [] []
     → HasFrameRoom (λ (s : List ℕ). s) (HasFreeUpTo (λ (s : List ℕ). s) 4130) t start at failed xs
 frame_room t start at failed xs short holds =
@@ -51,7 +51,7 @@ module _ (format : Format) (raw : Bool) (text : List ℕ) (v : Value) (body out 
     printed = printed;
   }
 
-  -- They are printed alone.
+  -- A message and its checksum are printed without a frame.
   pub alone : format.framed ≡ false → out ≡ body → PrintsEncoded format raw text old new
   alone framed same = record {
     value_of = v;

@@ -35,12 +35,12 @@ place_after n f bs = simp length-append (omega arith)
 
 -- ---- lines
 
--- A line after nothing.
+-- A line is printed if nothing is printed before it.
 line_after : (s : Format) (at : ℕ) (a : Answer) (old mid new : Option (List ℕ)) → Appends old mid [] → PrintsLine s at a mid new → PrintsLine s at a old new
 line_after s at (value v rest) old mid new none h = value_after s.notation s.schema at v rest old mid new none h
 line_after s at (refused w) old mid new none h = Appends-trans old mid new [] _ none h
 
--- A line, and then nothing.
+-- A line is printed if nothing is printed after it.
 line_before : (s : Format) (at : ℕ) (a : Answer) (old mid new : Option (List ℕ)) → PrintsLine s at a old mid → Appends mid new [] → PrintsLine s at a old new
 line_before s at (value v rest) old mid new h none = value_before s.notation s.schema at v rest old mid new h none
 line_before s at (refused w) old mid new h none = appends_no_more old mid new _ h none
@@ -55,7 +55,7 @@ lines_more s n (x ∷ xs) a old mid new h k =
     let P : ℕ → Type 0 = λ i. PrintsLine s (offset i) a.answer mid new in
     (h.0, h.1, lines_more s (n + length x.frame + 1) xs a h.0 mid new h.2 (subst P (sym (place_after n x.frame (bytes_of xs))) k))
 
--- Lines, and then nothing.
+-- Lines are printed if nothing is printed after them.
 lines_followed : (s : Format) (n : ℕ) (xs : List Answered) (old mid new : Option (List ℕ)) → PrintsLinesOf s n xs old mid → Appends mid new []
     → PrintsLinesOf s n xs old new
 lines_followed s n [] old mid new h none = Appends-trans old mid new [] [] h none
@@ -79,7 +79,7 @@ stream_followed s longest given old mid new d none = record {
 
 -- ---- states
 
--- Before the first byte.
+-- The state before the first byte of a stream.
 pub after_none : (s : Format) (longest : ℕ) (new : Stream) (held : Option (List ℕ)) → new.longest ≡ longest → new.held.items ≡ [] → new.skipping ≡ false → new.start ≡ 0
     → new.count ≡ 0 → IsAfter s longest [] new held held
 after_none s longest new held limit empty skipping start count = record {
@@ -113,7 +113,7 @@ module _ (s : Format) (longest : ℕ) (given : List ℕ) (before after : Stream)
     count_on : after.count ≡ offset (length (given ++ part))
     count_on = let n = length-append given part in let c = was.count in omega arith
 
-    -- Bytes of a frame that is being skipped.
+    -- The state after bytes of a frame that is being skipped.
     pub skipped : before.skipping ≡ true → after.skipping ≡ true → IsAfter s longest (given ++ part) after first old
     skipped on still =
         let over = was.over on in
@@ -136,7 +136,7 @@ module _ (s : Format) (longest : ℕ) (given : List ℕ) (before after : Stream)
           over = λ _. longer;
         }
 
-    -- Bytes that have room.
+    -- The state after bytes of a frame that still has room.
     pub kept : before.skipping ≡ false → after.skipping ≡ false → length part ≤ before.longest - length before.held.items → after.held.items ≡ before.held.items ++ part
         → IsAfter s longest (given ++ part) after first old
     kept off still room holds =
@@ -162,7 +162,7 @@ module _ (s : Format) (longest : ℕ) (given : List ℕ) (before after : Stream)
           over = λ on. cc (sym still ∙ on);
         }
 
-    -- Bytes with which the frame is too long: its line is printed.
+    -- The state after bytes that make the frame too long: its line is printed.
     pub overflowed : before.skipping ≡ false → after.skipping ≡ true → before.longest - length before.held.items < length part
         → PrintsLine s before.start (refused overfull) old new → IsAfter s longest (given ++ part) after first new
     overflowed off now room printed =
@@ -222,7 +222,7 @@ module _ (s : Format) (longest : ℕ) (given : List ℕ) (before after : Stream)
         let held = (was.held off).0 in
         answered_by a old (rw held at is) (frames_printed off) (rw was.start at printed)
 
--- A frame ends that was skipped: its line is printed already.
+-- The state after the zero of a skipped frame, whose line is printed already.
 pub ended_skipped : (s : Format) (longest : ℕ) (given : List ℕ) (before after : Stream) (first old : Option (List ℕ)) (was : IsAfter s longest given before first old)
     → after.longest ≡ before.longest → after.start ≡ after.count → after.count ≡ min (before.count + 1) (2 ^ 64 - 1) → after.held.items ≡ [] → after.skipping ≡ false
     → before.skipping ≡ true → IsAfter s longest (given ++ 0 ∷ []) after first old
@@ -277,7 +277,7 @@ takes_frame s a b c d piece eaten rest part after more end old mid mid' new cut 
       continues_both s a c d (eaten ++ part) (0 ∷ []) old mid' new (continues_both s a b c eaten part old mid mid' before (holds (subst NoZero (sym front) ends.0))) zero,
     )
 
--- What is printed stays so if the output keeps its bytes.
+-- Bytes that are printed stay printed, if the output keeps its bytes.
 pub continues_kept : (s : Format) (a b : Stream) (x : List ℕ) (old mid new : Option (List ℕ)) → Continues s a x b old mid → Keeps mid new → Continues s a x b old new
 unfolding stream_followed
 continues_kept s a b x old mid new p same longest given first h =
@@ -295,7 +295,7 @@ continues_kept s a b x old mid new p same longest given first h =
 
 module _ (s : Format) (longest : ℕ) (given : List ℕ) (known now left old mid new : Option (List ℕ)) (before after : Stream) (w : IsAfter s longest given before old mid)
     (reader : Consumes known now given) where
-  -- What was read before is printed, and a piece more.
+  -- The lines of the bytes read before, and of a piece more, are printed.
   pub one_more_read : (more : Bool) (r : Reads s before after now left mid new more) → IsAfter s longest (given ++ r.piece) after old new
   one_more_read more r = r.lines longest given old w
 

@@ -25,7 +25,7 @@ gathered took bytes appends (Some x) empty full old new none written printed =
     let whole : bytes full ≡ x = contents_after_writes took bytes appends empty x full written ∙ ap (λ (front : List ℕ). front ++ x) none in
     subst (λ (line : List ℕ). Appends old new line) whole printed
 
--- What is printed of bytes after a value.
+-- The text that is printed for bytes after a value.
 more_shown : (rest noun : List ℕ) → 0 < length rest → noun ≡ noun_of (length rest)
     → (codes " and " ++ (decimal (length rest) ++ (codes " " ++ (noun ++ codes " more: ")))) ++ encode_lower rest ≡ more_text rest
 more_shown [] noun some is = absurd (omega arith)

@@ -27,6 +27,7 @@ pub fn write_hex<W: Write>(bytes: &[u8], output: &mut W) -> io::Result<()>
     Ok(())
 }
 
+/// Writes the digits of at most [`PIECE`] bytes at once.
 fn write_piece<W: Write>(piece: &[u8], output: &mut W) -> io::Result<()>
     requires { length piece.now ≤ PIECE }
     ensures { OnOk result (Appends (W.contents output.old) (W.contents output.new)

@@ -105,6 +105,7 @@ fn is_whole(path: &Path<'_>) -> bool
     }
 }
 
+/// Returns whether the text of a step is empty.
 fn is_blank(step: Step<'_>) -> bool
     ensures blank { IsTrue result → step_text (plain_step step.entry) ≡ [] }
     ensures shown { IsFalse result → 0 < length (step_text (plain_step step.entry)) }

@@ -74,6 +74,7 @@ pub fn print_first<W: Write>(
     Ok(())
 }
 
+/// Prints the line of a value, and a second line of the bytes after its message or frame.
 fn print_two<W: Write>(
     schema: &Schema,
     value: &Value,
@@ -117,6 +118,7 @@ fn print_gathered<W: Write>(shown: Shown<'_>, output: &mut W) -> io::Result<()>
     }
 }
 
+/// Prints the bytes of the data after a value, if there are some.
 fn print_more<W: Write>(rest: &[u8], output: &mut W) -> io::Result<()>
     ensures { OnOk result (Appends (W.contents output.old) (W.contents output.new)
         (more_text rest.now)) }
@@ -160,6 +162,7 @@ fn print_json<W: Write>(
     Ok(())
 }
 
+/// Prints a member with these bytes. Prints nothing if there are none.
 fn print_member<W: Write>(name: &str, bytes: &[u8], output: &mut W) -> io::Result<()>
     ensures { OnOk result (Appends (W.contents output.old) (W.contents output.new)
         (bytes_member name.now bytes.now)) }

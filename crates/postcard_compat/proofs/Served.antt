@@ -8,7 +8,7 @@ use Rattle.postcard_schema.specs.Meaning.{MessageType, MessageTypes, choice, gro
 use Rattle.postcard_compat.specs.Said.{Word, Saying, Count, Index, End, said, said_all, each_said, elements_said, option_said, list_said, array_said, group_said, choice_said}
 use Rattle.postcard_compat.specs.Serving.{SetServes, RowServes, Serves, AllServe, VariantsServe}
 
--- A set serves itself, and what a server serves is served.
+-- Serving is reflexive, for any set of trees.
 pub itself : (P : Tree → Type 0) (f : Saying) → SetServes P f P f
 itself P f t r = (t, r, refl, λ p k. k)
 
@@ -109,7 +109,7 @@ then_serves n o ns os h hs ts (u, us, e, q, qs) =
     let says : said_all (then_type n ns) (Then s ss) ≡ said_all (then_type o os) (Then u us) = ap₂ (λ (a b : List Word). a ++ b) same sames in
     (Then s ss, (s, ss, refl, r, rs), says ∙ sym (ap (said_all (then_type o os)) e), λ p k. let l : SpellsAll (Then u us) p = rw e at k in (l.0, l.1, spelled l.0 l.2, all l.1 l.3, l.4))
 
--- No variant is served by any.
+-- An enum without variants is served by any enum.
 pub none_serve : (ns : MessageTypes) → VariantsServe ns no_types
 none_serve ns i t r = absurd r
 

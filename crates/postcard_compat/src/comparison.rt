@@ -338,6 +338,7 @@ fn has_empty_elements(schema: &Schema) -> bool {
     }
 }
 
+/// Returns `true` if one of the parts has such a list, map or array.
 #[cycle(empty)]
 fn parts_have(parts: &Vec<Schema>) -> bool {
     for part in parts {
@@ -348,6 +349,7 @@ fn parts_have(parts: &Vec<Schema>) -> bool {
     false
 }
 
+/// Returns `true` if one of the contents has such a list, map or array.
 #[cycle(empty)]
 fn contents_have(named: &Vec<Named<Schema>>) -> bool {
     for each in named {

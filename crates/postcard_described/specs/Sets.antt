@@ -10,6 +10,8 @@ use Rattle.postcard_schema.specs.Meaning.{MessageType, MessageTypes, no_types, t
 use Rattle.postcard_described.specs.SameBytes.{SameBytes, SameRow, same_tree, same_row, same_present, same_variant, same_group, same_seq, same_then, row_after, join, splice}
 use Rattle.postcard_described.specs.Within.{Covered, RowCovered, Within, RowWithin, Same, alike, row_itself, some_of}
 
+-- The lemmas `.._covered` and `.._within`: if F is covered by G, so is each set of trees that a type makes of F. There is one pair for each
+-- kind of type.
 option_covered : {F G : Tree → Type 0} → Covered F G → Covered (IsOption F) (IsOption G)
 option_covered h t (inl e) = (t, inl e, same_tree t)
 option_covered h t (inr (s, e, r)) =
@@ -135,6 +137,8 @@ pub flat_within : {e d : Type 0} {K L : Trees → Type 0} (ms ns : List MessageT
     → RowWithin (e × d) (IsThen (IsGroup K) L) (reads_all (row_of (ms ++ ns)))
 flat_within ms ns h k = record { inside = flat_inside ms ns h.inside k.inside; all = λ x. flat_all ms ns (h.all x.0) (k.all x.1) }
 
+-- The lemmas `.._map`: if each tree of F is one of G, the same holds of the options, lists, arrays, groups and variants of both. The lemmas
+-- `.._same` follow, for equal sets.
 option_map : {F G : Tree → Type 0} → ((t : Tree) → F t → G t) → (t : Tree) → IsOption F t → IsOption G t
 option_map h t (inl e) = inl e
 option_map h t (inr (s, e, r)) = inr (s, e, h s r)

@@ -30,12 +30,12 @@ adds_both P Q R joins old mid new bytes rest after (a, p, is, e) (b, q, was, f) 
   e ∙ ap (λ r. bytes_of a ++ r) f ∙ sym (append_assoc (bytes_of a) (bytes_of b) after) ∙ ap (λ r. r ++ after) (sym (bytes_join a b)),
 )
 
--- A walk that stops after lines were added.
+-- A walk that stops adds its lines after those that were added before.
 pub stops_on : (P T S : List Line → Type 0) → ((a b : List Line) → P a → T b → S (a ++ b)) → (old mid new : List Line) (bytes rest : List ℕ) (e : Error)
     → Adds P old bytes mid rest → Stops T mid rest new e → Stops S old bytes new e
 stops_on P T S joins old mid new bytes rest e a s = (s.0, λ other. adds_both P T S joins old mid new bytes rest [] a (s.1 other))
 
--- A walk after lines were added.
+-- A walk adds its lines after those that were added before.
 pub walks_on : (P Q R T S : List Line → Type 0) → ((a b : List Line) → P a → Q b → R (a ++ b)) → ((a b : List Line) → P a → T b → S (a ++ b))
     → (old mid new : List Line) (bytes rest : List ℕ) (r : Result (Bor (List ℕ)) Error) → Adds P old bytes mid rest → Walks Q T mid rest new r → Walks R S old bytes new r
 walks_on P Q R T S joins stops old mid new bytes rest (Ok v) a w = adds_both P Q R joins old mid new bytes rest v.now a w

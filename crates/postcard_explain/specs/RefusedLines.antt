@@ -30,8 +30,8 @@ mutual
     no_index : (depth : ℕ) (label : PlainLabel) (s : Schema) (line : Line) (variants : Vec (Named Schema) Global) → s ≡ schemas.Enum variants
         → IsAt depth label line → line.kind ≡ Refused expectations.Variant → HasNoIndex (length variants.items) line.bytes.now
         → Refuses most depth label s (line ∷ [])
-    -- A part of a value, with the lines that the value has before it. It is the content of an option or a variant, an item of a list or a
-    -- map, or a part of a tuple or a struct.
+    -- A part of a value, with the lines that the value has before it. It is the content of an option or a variant, an item of a list, or a
+    -- part of a tuple or a struct.
     in_present : (depth : ℕ) (label : PlainLabel) (s : Schema) (line : Line) (content : Box Schema Global) (more : List Line)
         → s ≡ schemas.Option content → IsAt depth label line → line.kind ≡ Present → line.bytes.now ≡ 1 ∷ []
         → Refuses most (deeper depth) whole content.value more → Refuses most depth label s (line ∷ more)

@@ -19,6 +19,7 @@ use postcard_schema::{Leaf, Schema, Variant};
 use postcard_value::take_from_bytes;
 use postcard_wire::{Error, Result};
 
+/// Adds the lines of a value of the schema.
 #[cycle(explain)]
 pub(crate) fn explain_part<'a>(
     walk: &mut Walk<'a>,
@@ -194,6 +195,7 @@ fn explain_more<'a>(
     Ok(rest)
 }
 
+/// Adds the lines of an item of a list, an array or a map.
 #[cycle(explain)]
 fn explain_item<'a>(
     walk: &mut Walk<'a>,

@@ -61,6 +61,7 @@ impl Schema {
     }
 }
 
+/// Returns whether one of the parts has at least one byte in every message.
 #[cycle(has_bytes)]
 fn part_has_bytes(parts: &Vec<Schema>) -> bool
     ensures { result ≡ some_has_bytes (types_of parts.now.items) }
@@ -73,6 +74,7 @@ fn part_has_bytes(parts: &Vec<Schema>) -> bool
     false
 }
 
+/// Returns whether one of the fields has at least one byte in every message.
 #[cycle(has_bytes)]
 fn field_has_bytes(fields: &Vec<Field>) -> bool
     ensures { result ≡ some_has_bytes (types_of (contents fields.now.items)) }

@@ -85,6 +85,7 @@ fn push_leaf<'a>(
     }
 }
 
+/// Appends the path of the current part.
 fn push_here<'a>(alloc: Global, here: &Vec<Step<'a>>, paths: &mut Vec<Path<'a>>) -> Result<()>
     ensures added { OnOk result (map plain_path paths.new.items ≡ map plain_path paths.old.items
         ++ map plain_step here.now.items ∷ []) }

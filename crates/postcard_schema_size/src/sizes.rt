@@ -27,6 +27,7 @@ pub fn exactly(size: usize) -> Sizes
     }
 }
 
+/// Returns the sizes of a type without parts.
 pub fn leaf_sizes(leaf: Leaf) -> Sizes
     ensures least { result.least ≡ Some (leaf_least leaf) }
     ensures greatest { result.greatest ≡ leaf_greatest leaf }

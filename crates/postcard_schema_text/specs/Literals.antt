@@ -5,6 +5,7 @@ use Rattle.std.specs.Str.Parse.{IsNumeral, digits_value}
 use Rattle.postcard_schema_text.specs.declared.literal.LiteralError.{LiteralError}
 use Rattle.postcard_schema_text.specs.declared.literal.LiteralError.TheVariants.{Malformed, TooLarge}
 
+-- Whether a byte is `_`.
 abbrev pub is_underscore : ℕ → Bool
 is_underscore b = nat_eq b 95
 

@@ -23,6 +23,7 @@ pub fn begins_enum(text: &[u8]) -> bool
     follows_name(rest)
 }
 
+/// Returns whether `|`, `(` or `{` comes next, as after the name of an enum's first variant.
 fn follows_name(text: &[u8]) -> bool
     ensures { Decides result (Starts is_after_first_name text.now) }
 {

@@ -30,7 +30,7 @@ module _ {S O V : Type 0} (F : Ghosts S O) (s : Shape V) where
 pub block_shortens : {V : Type 0} {s : Shape V} {rest others : List V} {bytes : List ℕ} {n : ℕ} → IsBlock s rest bytes n → others ≡ drop n rest → length others < length rest
 block_shortens {rest} {n} b o = rw o (omega (arith, length-drop n rest, b.some, b.within))
 
--- So do elements that are written one by one.
+-- Elements that are written one by one are taken away, too.
 pub some_shorten : {V : Type 0} (rest others : List V) (n : ℕ) → 0 < n → n ≤ length rest → others ≡ drop n rest → length others < length rest
 some_shorten rest others n some within o = rw o (omega (arith, length-drop n rest, some, within))
 
@@ -102,13 +102,13 @@ module _ {S O V : Type 0} {F : Ghosts S O} {s : Shape V} where
   written_whole {rest} {mid} {new} {r} w b v =
       written_end w (wrote_as (subst (λ z. Wrote F mid z never ⊥ r new) b.0 v) (λ e q. absurd q) (λ t. absurd t))
 
-  -- If those that are left fit, all do.
+  -- If the elements that are left fit, all elements fit.
   pub written_fits : {items rest : List V} {old mid : S} (r : Result (Unit {0}) Error) → Written F s items rest old mid
       → OnOk r (AllFit s.fits rest) → OnOk r (AllFit s.fits items)
   written_fits {rest} (Ok ok) w h = subst (AllFit s.fits) (sym w.cut) (all_append s.fits w.done rest w.fits h)
   written_fits (Err e) w h = tt
 
-  -- They do if bytes are their encodings.
+  -- The elements that are left fit if bytes are their encodings.
   pub written_whole_fits : {items rest : List V} {bytes : List ℕ} {old mid : S} (r : Result (Unit {0}) Error) → Written F s items rest old mid
       → AreBytesOf s rest bytes → OnOk r (AllFit s.fits items)
   written_whole_fits (Ok ok) w b = written_fits (Ok ok) w b.1

@@ -64,6 +64,7 @@ impl<F: Flavor> Serializer<F> {
         self.output.try_extend(piece).map_err(refusal)
     }
 
+    /// Writes a number as a varint.
     #[inline(always)]
     fn varint(&mut self, n: u64) -> Result<()>
         ensures { SerializesBytes F.Flavor (digits n) self.old result self.new }
@@ -71,6 +72,7 @@ impl<F: Flavor> Serializer<F> {
         self.output.try_varint(n).map_err(refusal)
     }
 
+    /// Writes the number of the bytes, and then the bytes.
     fn extend_counted(&mut self, piece: &[u8]) -> Result<()>
         ensures { SerializesBytes F.Flavor (digits (length piece.now) ++ piece.now)
             self.old result self.new }

@@ -24,7 +24,7 @@ num_some w n p s = digits_some p s.digits
 one_some : (p : List ℕ) (b : ℕ) → p ≡ b ∷ [] → 0 < length p
 one_some p b e = let l = ap length e in omega arith
 
--- What has a part with a byte has a byte.
+-- A tree with a part that has a byte has a byte.
 front_some : (p x y : List ℕ) → p ≡ x ++ y → 0 < length x → 0 < length p
 front_some p x y e l = let n = ap length e ∙ length-append x y in omega arith
 

@@ -41,7 +41,7 @@ reads_join : (ss us : List Schema) (a b : Trees) → reads_all (types_of ss) a �
 reads_join [] us a b h k = rw h k
 reads_join (s ∷ ss) us a b (t, ts, e, r, h) k = rw e (t, join ts b, refl, r, reads_join ss us ts b h k)
 
--- One value more in a row of values.
+-- The bytes of values in a row and of one value more encode the longer row.
 pub each_more : (t : MessageType) (n : ℕ) (tree : Tree) (done front : List ℕ) → SpellsEach t n done → reads t tree → Spells tree front
     → SpellsEach t (n + 1) (done ++ front)
 each_more t n tree done front a r s = (
@@ -62,7 +62,7 @@ entry_spelled k v p q (s, r, f) (t, u, h) = (
   (p, q, f, alone t q h, refl),
 )
 
--- One part more of a tuple, and one field more of a struct.
+-- The same for one part more of a tuple, and one field more of a struct.
 pub parts_more : (ss : List Schema) (x : Schema) (done front : List ℕ) → SpellsParts ss done → FrontSpells (type_of x) front
     → SpellsParts (ss ++ x ∷ []) (done ++ front)
 parts_more ss x done front a b = (

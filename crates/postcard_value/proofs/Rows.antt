@@ -66,7 +66,7 @@ pub elements_over : (R : Tree → Type 0) → IsOver (AreRead 0 R)
 elements_over R = ((refl, tt), no_elements R)
 
 module _ {S : Type 0} {left : S → Left} {able : S → ℕ → Type 0} {may_leave : S → S → Type 0} where
-  -- It holds before the first value is read.
+  -- The invariant of the loop holds before the first value is read.
   pub row_begins : {start : S} {all : Trees → Type 0} {items : List Value} → items ≡ [] → GoingRow left able may_leave start all items start all
   row_begins {start} {all} none = rw none (record { ends = ends })
     where
@@ -76,7 +76,7 @@ module _ {S : Type 0} {left : S → Left} {able : S → ℕ → Type 0} {may_lea
       ends (Err e) new h = h
 
 module _ {S : Type 0} {left : S → Left} {able : S → ℕ → Type 0} {may_leave : S → S → Type 0} (laws : Laws left able may_leave) where
-  -- It holds after one more value is read.
+  -- The invariant holds after one more value is read.
   pub row_read : {R : Tree → Type 0} {start now mid : S} {all rest next : Trees → Type 0} {items : List Value} {v : Value}
       → Compound Then Spells R IsTree SpellsAll (λ (w : Value). next) SpellsAll rest →
       GoingRow left able may_leave start all items now rest → ReadsFrom Spells R IsTree memory left able may_leave now (Ok v) mid

@@ -249,6 +249,8 @@ pub fn low_bits(integer: Integer, bits: u128) -> u128
     }
 }
 
+/// Returns half of the numbers of the type: the first pattern of bits that stands for a negative
+/// number.
 fn half_of(integer: Integer) -> u128
     ensures { 2 * result ≡ 256 ^ size_of integer }
 {

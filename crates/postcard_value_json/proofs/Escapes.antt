@@ -73,7 +73,7 @@ of_194 c low high =
     let second : next c ≡ c = omega arith in
     two c low (omega arith) ∙ ap₂ (λ a b. a ∷ b ∷ []) first second
 
--- U+0080 to U+00BF.
+-- The characters U+0080 to U+00BF: two bytes, the first of which is 194.
 after_194 : (c : ℕ) (bs : List ℕ) → 128 ≤ c → c < 192 → bytes_of (encode c ++ bs) ≡ cond (nat_le 128 c && nat_lt c 160) (unit_escape c ++ bytes_of bs) (194 ∷ c ∷ bytes_of bs)
 unfolding bytes_after
 after_194 c bs low high = ap (λ s. bytes_after false (s ++ bs)) (of_194 c low high)
@@ -217,7 +217,7 @@ prepend_two : (a : ℕ) (xs : List ℕ) (o : Option (List ℕ)) → prepend (a �
 prepend_two a xs None = refl
 prepend_two a xs (Some s) = refl
 
--- After a byte 194, for what is printed as ASCII.
+-- The step after a byte 194, for a byte that is printed as ASCII.
 after_lead : (x : ℕ) (out : List ℕ) → ((bs : List ℕ) → bytes_after true (escape_byte x ++ bs) ≡ 194 ∷ (out ++ bytes_of bs)) → ((bs : List ℕ) → content plain (out ++ bs) ≡ prepend (x ∷ []) (content plain bs))
     → ((bs : List ℕ) → lex in_string (out ++ bs) ≡ lex in_string bs) → Step true x
 unfolding content lex
@@ -231,7 +231,7 @@ after_lead x out kept reads passes = record {
   same = refl;
 }
 
--- A byte with a short escape.
+-- The step at a byte that has a short escape.
 short : (f : Bool) (x letter : ℕ) → ((bs : List ℕ) → bytes_after false (escape_byte x ++ bs) ≡ 92 ∷ letter ∷ bytes_of bs) → ((bs : List ℕ) → bytes_after true (escape_byte x ++ bs) ≡ 194 ∷ 92 ∷ letter ∷ bytes_of bs)
     → ((bs : List ℕ) → content plain (92 ∷ letter ∷ bs) ≡ prepend (x ∷ []) (content plain bs)) → ((bs : List ℕ) → lex in_string (92 ∷ letter ∷ bs) ≡ lex in_string bs) → Step f x
 short false x letter kept lead reads passes = record { after = false; out = 92 ∷ letter ∷ []; held = x ∷ []; is = kept; read = reads; lexed = passes; same = refl }

@@ -29,7 +29,7 @@ some_is x y e = cc
 
 -- ---- lists and tuples
 
--- One part more of a tuple.
+-- One part more of a tuple adds its JSON.
 pub each_more : {S X : Type 0} (part : S → Writer) (see : X → Tree) (ss : List S) (vs : List X) (i : ℕ) (s : S) (v : X) (ds : List Data) (d : Data)
     → i < length ss → i < length vs → s ≡ get_or ss i s → v ≡ get_or vs i v
     → each_json (map part (take i ss)) (trees (map see (take i vs))) ≡ Some ds → part s (see v) ≡ Some d
@@ -61,7 +61,7 @@ each_all : {X : Type 0} (p : Writer) (see : X → Tree) (vs : List X) → each_j
 each_all p see [] = refl
 each_all p see (v ∷ vs) = ap (λ r. option_and_then (with_first r) (p (see v))) (each_all p see vs)
 
--- One element more of a list.
+-- One element more of a list adds its JSON.
 pub all_more : {X : Type 0} (p : Writer) (see : X → Tree) (vs : List X) (i : ℕ) (v : X) (ds : List Data) (d : Data) → i < length vs → v ≡ get_or vs i v
     → all_json p (trees (map see (take i vs))) ≡ Some ds → p (see v) ≡ Some d → all_json p (trees (map see (take (suc i) vs))) ≡ Some (ds ++ d ∷ [])
 all_more p see vs i v ds d low here e f =
@@ -116,7 +116,7 @@ parts_whole ss rs us vs ds left same so =
 abbrev fields_after : List FieldWriter → Trees → List ℕ → Members → Data → Option Members
 fields_after fs ts n a d = option_and_then (members_json fs ts) (add_member n d a)
 
--- One field more of a struct.
+-- One field more of a struct adds its member.
 pub members_more : {S X : Type 0} (field : S → FieldWriter) (see : X → Tree) (ss : List S) (vs : List X) (i : ℕ) (s : S) (v : X) (a b c : Members) (d : Data)
     → i < length ss → i < length vs → s ≡ get_or ss i s → v ≡ get_or vs i v
     → members_json (map field (take i ss)) (trees (map see (take i vs))) a ≡ Some b → (field s).1 (see v) ≡ Some d → add_member (field s).0 d b ≡ Some c

@@ -50,6 +50,7 @@ fn write(alloc: Global, value: &Value, schema: &Schema) -> Result<Option<Json>, 
     }
 }
 
+/// Returns an object with this member alone.
 fn alone(alloc: Global, name: &str, content: Json) -> Result<Json, AllocError>
     ensures { IfOk result (λ j. view j ≡ alone name.now (view content)) }
 {

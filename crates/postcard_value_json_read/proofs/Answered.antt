@@ -28,7 +28,7 @@ use Rattle.postcard_value_json_read.specs.Accepted.{Answers, IsBoth, IsOnly, IsR
 
 -- ---- answers
 
--- An error of a part that is passed on.
+-- An error of a part that is passed on is one of the whole.
 pub passed : {V T J : Type 0} (D : Type 0) (see : V → T) (R : T → J → Type 0) (d : J) (r : Result V JsonError) (e : JsonError) → IsErrAnd r (λ y. y ≡ e) → (D → (u : T) → R u d → e ≡ OutOfMemory)
     → Answers D see R d r
 passed D see R d (Ok v) e h f = absurd h
@@ -70,7 +70,7 @@ choice_not_null no_fields i t h = h
 choice_not_null (then_field n x fs) zero t h = variant_not_null n x (IsJsonOf x) t h
 choice_not_null (then_field n x fs) (suc i) t h = choice_not_null fs i t h
 
--- The JSON of a type whose values can't be `null` isn't.
+-- If the JSON of a type can't be `null`, `null` is read as none of its trees.
 not_null : (x : Layout) (t : Tree) → can_be_null x ≡ false → IsJsonOf x t null → ⊥
 not_null (leaf l) t b h = leaf_not_null l t h
 not_null (layouts.option x) t b h = cc b
@@ -167,7 +167,7 @@ plain_by P m x u d b full f r = by (plain_form m x u d b r)
 
 -- ---- items
 
--- One item more.
+-- One item more, whose JSON R relates to its tree.
 pub items_more : (R : Reading) (vs : List Value) (js : List json.Value) (v : Value) (j : json.Value) → AreItems R (trees (map tree vs)) (items_view js) → R (tree v) (view j)
     → AreItems R (trees (map tree (vs ++ v ∷ []))) (items_view (js ++ j ∷ []))
 items_more R [] [] v j h r = (r, tt)
@@ -241,7 +241,7 @@ module _ (P : Tree → Type 0) (R : Reading) where
     λ names u r. let k = list_form u ds r in k.1 ∙ ap nodes.Seq (one names k.0 k.2),
   )
 
-  -- Other JSON is no list.
+  -- JSON that is no array denotes no list.
   pub list_other : (u : Tree) (d : Data) → ((ds : Items) → d ≡ values.array ds → ⊥) → IsBoth (IsSeq P) (IsListJson R) u d → ⊥
   list_other u d other ((us, is, few, each), h) = by (subst (λ z. IsListJson R z d) is h)
     where

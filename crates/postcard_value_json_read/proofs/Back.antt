@@ -248,7 +248,7 @@ rows_told : (es : List Told) → AreReadBack (row_of (map type_of (map schema_in
 rows_told [] = tt
 rows_told (e ∷ es) = (e.1, rows_told es)
 
--- The types and the layouts of names of such schemas.
+-- The types of fields or variants, and below their layouts, from such schemas.
 abbrev named_types : List (Named Told) → MessageTypes
 named_types es = row_of (contents (map (former-Schema-Struct-0-at-2.map Schema MessageType type_of) (map (former-Schema-Struct-0-at-2.map Told Schema schema_in) es)))
 

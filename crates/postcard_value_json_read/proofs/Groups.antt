@@ -33,7 +33,7 @@ ArePartsOnly [] [] [] = Unit {0}
 ArePartsOnly (s ∷ ss) (v ∷ vs) (j ∷ js) = IsOnly (HasDistinctNames (layout_of s)) (IsReading (type_of s) (layout_of s)) (tree v) (view j) × ArePartsOnly ss vs js
 ArePartsOnly ss vs js = ⊥
 
--- One part more.
+-- One part more that is the only one that its item denotes.
 pub parts_more : (ss : List Schema) (vs : List Value) (js : List json.Value) (s : Schema) (v : Value) (j : json.Value) → ArePartsOnly ss vs js
     → IsOnly (HasDistinctNames (layout_of s)) (IsReading (type_of s) (layout_of s)) (tree v) (view j) → ArePartsOnly (ss ++ s ∷ []) (vs ++ v ∷ []) (js ++ j ∷ [])
 parts_more [] [] [] s v j h one = (one, tt)
@@ -196,7 +196,7 @@ AreFieldsOnly [] [] d = Unit {0}
 AreFieldsOnly (n ∷ ns) (v ∷ vs) d = IsOnly (HasDistinctNames (layout_of n.content)) (IsMemberReading (string_bytes n.name) (type_of n.content) (layout_of n.content)) (tree v) d × AreFieldsOnly ns vs d
 AreFieldsOnly ns vs d = ⊥
 
--- One field more.
+-- One field more that is the only one that its member denotes.
 pub fields_more : (ns : List (Named Schema)) (vs : List Value) (n : Named Schema) (v : Value) (d : Data) → AreFieldsOnly ns vs d
     → IsOnly (HasDistinctNames (layout_of n.content)) (IsMemberReading (string_bytes n.name) (type_of n.content) (layout_of n.content)) (tree v) d → AreFieldsOnly (ns ++ n ∷ []) (vs ++ v ∷ []) d
 fields_more [] [] n v d h one = (one, tt)

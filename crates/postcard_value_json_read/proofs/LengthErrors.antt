@@ -26,7 +26,7 @@ module _ (ns : List (Named Schema)) (d : Data) where
   missing_error name (NotAValue path what) r at (inl is) taken no_member = subst (IsLengthError ns d) (sym is) tt
   missing_error name (NotAValue path what) r at (inr here) taken no_member = named name what path r at here taken no_member
 
--- What is found is there.
+-- If a member is found, the JSON has it.
 pub some_found : {A : Type 0} (f : A → Data) (r : Option A) (o : Option Data) → option_map f r ≡ o → is_some r ≡ true → (e : Data) × (o ≡ Some e)
 some_found f None o found some = absurd (cc some)
 some_found f (Some x) o found some = (f x, sym found)

@@ -12,7 +12,7 @@ pub line_goes_on : (b : ℕ) (left more rest : List ℕ) → IsLine more → b �
 line_goes_on b left [] rest line e other = absurd (other cc)
 line_goes_on b left (x ∷ xs) rest line e other = (xs, line.1, cc)
 
--- One of the lines that are left.
+-- Dropping one of the lines that are left.
 pub line_less : (n m : ℕ) (text more rest left : List ℕ) → m < n → AreLines (n - m) more → text ≡ more ++ rest → ((line after : List ℕ) → IsLine line → text ≡ line ++ 10 ∷ after → left ≡ after)
     → (fewer : List ℕ) × AreLines (n - (m + 1)) fewer × (left ≡ fewer ++ rest)
 line_less n m text more rest left low lines whole cut =

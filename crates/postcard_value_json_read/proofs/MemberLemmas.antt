@@ -35,7 +35,7 @@ pub record Key (text key a b : List ℕ) (colon : Bool) : Type 0 where
   pub taken : colon ≡ true → TakesPhrase (IsSign 58) a b
   pub none : colon ≡ false → is_ascii_whitespace 58 ≡ false → (rest : List ℕ) → TakesPhrase (IsSign 58) a rest → ⊥
 
--- Then the blanks, and from `v` on the value, after which w is left, and a `,`.
+-- What a turn takes then: blanks, the value, which begins at `v` and after which w is left, and a `,`.
 pub record Held (b v w x : List ℕ) (comma : Bool) : Type 0 where
   pub trimmed : IsTrimAsciiStart b v
   pub skips : Skips v w

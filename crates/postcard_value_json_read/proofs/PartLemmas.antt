@@ -94,7 +94,7 @@ item_less n left items after next taken h skips take none =
 
 -- ---- steps
 
--- One step more of a path.
+-- A path with one step more leads to a part of the part.
 pub lead_step : (d : Step) (ss : List Step) (i : ℕ) (text next rest : List ℕ) → i < length ss → Lead (map plain_step (drop i ss)) text rest
     → ((part : List ℕ) → LeadsTo (plain_step (get_or ss i d)) text part → next ≡ part) → Lead (map plain_step (drop (suc i) ss)) next rest
 lead_step d [] i text next rest low h cut = absurd (omega (arith, low))

@@ -220,7 +220,7 @@ variant_only ns k n t d small low here found first (h, one) = (
 below_or_at : (k i : ℕ) → k < i + 1 → (k < i) ⊎ (k ≡ i)
 below_or_at k i low = grind (arith, low)
 
--- One more variant that the JSON isn't.
+-- If the JSON has the form of no variant before index i, nor of variant i, it has that of none before i + 1.
 pub none_more : (d : Data) (ns : List (Named Schema)) (i : ℕ) (x : Named Schema) → i < length ns
     → ((k : ℕ) (n : Named Schema) → k < i → n ≡ get_or ns k n → (t : Tree) → IsJsonOfVariant n t d → ⊥)
     → x ≡ get_or ns i x → ((t : Tree) → IsJsonOfVariant x t d → ⊥)

@@ -114,6 +114,7 @@ fn read_option<'a>(
     present(alloc, value)
 }
 
+/// Returns an option with this value.
 fn present<'a>(alloc: Global, value: Value) -> Result<Value, JsonError<'a>>
     ensures { MatchResult result (λ v. tree v ≡ Present (tree value))
         (λ e. e ≡ JsonError.OutOfMemory) }

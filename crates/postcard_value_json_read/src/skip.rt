@@ -105,6 +105,7 @@ fn after_scalar(text: &[u8]) -> &[u8]
     left
 }
 
+/// Returns whether a byte ends a number, `true`, `false` or `null`.
 fn ends_scalar(byte: u8) -> bool
     ensures { result ≡ ends_scalar byte }
 {

@@ -55,7 +55,7 @@ module _ {N : Type 0} {R : Tree → Type 0} (S : Speller) {a : List ℕ} where
 abbrev pub NoWord : List ℕ → List ℕ → Type 0
 NoWord word a = (x : List ℕ) → TakesPhrase (IsWord word) a x → EndsWord x → ⊥
 
--- The text that is left after it is `b`.
+-- The text after that word is `b`.
 abbrev pub OneWord : List ℕ → List ℕ → List ℕ → Type 0
 OneWord word a b = (x : List ℕ) → TakesPhrase (IsWord word) a x → EndsWord x → b ≡ x
 
@@ -142,7 +142,7 @@ content_ends_word x t a r goes h =
     let k = takes_split (IsSign 40) (Then (SpellsTree x t) (IsSign 41)) a r h in
     sign_ends_word 40 a k.0 refl k.1
 
--- Nothing, brackets of its own, or parentheses.
+-- The three forms of a content: nothing, a text with brackets of its own, or a text in parentheses.
 unit_taken : (x : Layout) (S : Speller) (t : Tree) (a : List ℕ) → is_unit x ≡ true → t ≡ nodes.Group NoTrees → TakesPhrase (SpellsContent x S t) a a
 unit_taken (tuple no_layouts) S t a unit is = ([], (is, refl), refl)
 unit_taken (tuple (then_layout x xs)) S t a unit is = cc unit
@@ -193,7 +193,7 @@ module _ {N : Type 0} {R : Tree → Type 0} (x : Layout) (S : Speller) {a : List
 
 -- ---- variants
 
--- The variant at an index.
+-- The texts of the variant at an index are its name and then its content.
 variant_at : (ns : List (Named Schema)) (i : ℕ) (n : Named Schema) → i < length ns → n ≡ get_or ns i n
     → SpellsAt (fields_of ns) i ≡ (λ t. Then (IsWord (string_bytes n.name)) (SpellsContent (layout_of n.content) (SpellsTree (layout_of n.content)) t))
 variant_at [] i n low is = absurd (omega (arith, low))
@@ -234,7 +234,7 @@ pub record FirstCalled (ns : List (Named Schema)) (name : List ℕ) (k : ℕ) : 
   pub found : k < length ns → (n : Named Schema) × (n ≡ get_or ns k n) × (string_bytes n.name ≡ name)
   pub first : (i : ℕ) (n : Named Schema) → i < length ns → i < k → n ≡ get_or ns i n → string_bytes n.name ≢ name
 
--- It is that of the variant that the text denotes.
+-- The index that was found is that of the variant that the text denotes.
 one_index : (ns : List (Named Schema)) (i k : ℕ) (name : List ℕ) (n : Named Schema) → NamesDiffer (fields_of ns) → FirstCalled ns name k → i < length ns → n ≡ get_or ns i n
     → string_bytes n.name ≡ name → k ≡ i
 one_index ns i k name n differ h low here is =
@@ -247,7 +247,7 @@ one_index ns i k name n differ h low here is =
 below_or_at : (k i : ℕ) → k < i + 1 → (k < i) ⊎ (k ≡ i)
 below_or_at k i low = grind (arith, low)
 
--- One more variant without the name.
+-- If neither the variants before index i nor variant i has the name, no variant before i + 1 has it.
 pub not_called_more : (name : List ℕ) (ns : List (Named Schema)) (i : ℕ) (n : Named Schema) → i < length ns → ((k : ℕ) (m : Named Schema) → k < i → m ≡ get_or ns k m → string_bytes m.name ≢ name)
     → n ≡ get_or ns i n → string_bytes n.name ≢ name → (k : ℕ) (m : Named Schema) → k < i + 1 → m ≡ get_or ns k m → string_bytes m.name ≢ name
 not_called_more name ns i n within before here none k m low is = elim (below_or_at k i low) [
@@ -260,7 +260,7 @@ not_called_more name ns i n within before here none k m low is = elim (below_or_
 same_variant : (ns : List (Named Schema)) (k : ℕ) (n u : Named Schema) → n ≡ get_or ns k n → k < length ns → u ≡ get_or ns k u → u ≡ n
 same_variant ns k n u here low is = is ∙ get_or_default ns k u n low ∙ sym here
 
--- What reads an enum, and the content of a variant.
+-- What the readers of an enum and of a variant's content promise.
 abbrev pub ReadsChoice : List (Named Schema) → List ℕ → Result Value Stop → List ℕ → Type 0
 ReadsChoice ns = ReadsTree (NamesDiffer (fields_of ns) × AreNamed (fields_of ns)) (IsVariant (reads_at (types_of (contents ns)))) (SpellsChoice (SpellsAt (fields_of ns)))
 

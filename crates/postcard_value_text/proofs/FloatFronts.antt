@@ -23,7 +23,7 @@ use Rattle.postcard_value_text.proofs.FloatTexts.{true_or_false, pass_cons, pass
 
 -- ---- the bytes of a number
 
--- A number that is no number stays none.
+-- A text that can no longer be a number stays none with further bytes.
 stuck : (bs : List ℕ) → completes_number 7 bs ≡ true → ⊥
 stuck [] h = true≢false (sym h)
 stuck (b ∷ bs) h =

@@ -172,7 +172,7 @@ nan_taken f bits word text a b c are is taken sign code =
 no_plus : (b : ℕ) → is_of_word b ≡ true → (b == 43) ≡ false
 no_plus b pass = grind (arith, nat_tests, pass)
 
--- A word has no `+`.
+-- A word doesn't begin with `+`.
 pub unsigned_word : (word : List ℕ) → AllPass is_of_word word → without_leading_plus word ≡ word
 unsigned_word [] pass = refl
 unsigned_word (b ∷ word) pass = rw (no_plus b (pass_head is_of_word b word pass)) refl

@@ -38,7 +38,7 @@ unless_follows false closing a r passes h = by (takes_split (Unless false (IsMay
     by (m, (front, inl none, whole), close) = sign_follows closing a r passes (subst (λ t. TakesPhrase (IsSign closing) t r) (sym (none_taken a m (front, none, whole))) close)
     by (m, (front, inr sign, whole), close) = sign_follows 44 a m refl (front, sign, whole)
 
--- What stands after the last part.
+-- The bracket that stands after the last part, perhaps after a `,`.
 abbrev pub Closes : ℕ → Bool → Phrase
 Closes closing none = Then (Unless none (IsMaybe 44)) (IsSign closing)
 

@@ -185,7 +185,7 @@ module _ (closing : ℕ) (N : Type 0) (R : Tree → Type 0) (S : Speller) (is : 
     }
 
     module _ {m : List ℕ} {v : Value} (one : ReadsTree N R S a (Ok v) m) where
-      -- After it a `,` is taken.
+      -- The value is read, and then a `,` is taken.
       pub item_comma : {c : List ℕ} → Took N (IsSign 44) m c → (r : Result (List Value) Stop) (b : List ℕ) → ReadsRest closing N R S c r b → ReadsRest closing N R S a (prefixed (v ∷ []) r) b
       item_comma {c} q r b h = by r h
         where
@@ -213,7 +213,7 @@ module _ (closing : ℕ) (N : Type 0) (R : Tree → Type 0) (S : Speller) (is : 
           }
           by (Err e) h = record { value = tt; spelled = tt; accepted = tail (Err e) h }
 
-      -- No `,` is: it is the last, and the bracket is next.
+      -- The value is read and no `,` is taken: it is the last, and the bracket is next.
       module _ (last : Misses (IsSign 44) m) where
         closes : N → (ts : Trees) (x : List ℕ) → Each R ts → TakesPhrase (AreClosed closing (phrases S ts)) a x → (ts ≡ row (v ∷ [])) × TakesPhrase (IsSign closing) m x
         closes names ts x each k = after f.next

@@ -101,7 +101,7 @@ tree_opens (structure fs) t a r names (front, none, whole) = absurd none
 tree_opens (choice fs) (nodes.Variant i t) a r names h = variant_opens fs i t a r names.1 h
 tree_opens (choice fs) t a r names (front, none, whole) = absurd none
 
--- Nor does an entry of a map, which begins with its key.
+-- An entry of a map begins with its key, and so with no closing bracket.
 pub entry_opens : (x : Layout) (V : Speller) (t : Tree) (a r : List ℕ) → HasDistinctNames x → TakesPhrase (SpellsEntry (SpellsTree x) V t) a r → Starts begins_value a
 entry_opens x V (nodes.Group (nodes.Then t (nodes.Then u NoTrees))) a r names h =
     let k = takes_split (SpellsTree x t) (Then (IsSign 61) (Then (IsSign 62) (V u))) a r h in

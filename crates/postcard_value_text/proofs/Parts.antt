@@ -112,7 +112,7 @@ module _ {A : Type 0} (N : Type 0) (R : A → Tree → Type 0) (S : A → Spelle
             h.accepted names f.one f.rest f.is (subst (λ t. TakesPhrase (S y f.one) t f.rest) (sym (lead.only names f.mid f.led)) f.taken) f.goes;
       }
 
-      -- It is read, and then the others are.
+      -- The part is read, and then the others are.
       pub part_read : {n : List ℕ} {v : Value} → ReadsTree N (R y) (S y) m (Ok v) n → (r : Result (List Value) Stop) (b : List ℕ)
           → ReadsParts N R S false ys n r b → ReadsParts N R S first (y ∷ ys) a (prefixed (v ∷ []) r) b
       part_read {n} {v} h r b g = by r g
@@ -132,7 +132,7 @@ module _ {A : Type 0} (N : Type 0) (R : A → Tree → Type 0) (S : A → Spelle
           }
           by (Err e) g = record { value = tt; spelled = tt; accepted = tail (Err e) g }
 
--- One value more is some.
+-- The list of values isn't empty once one is read.
 pub not_none : (done more : List Value) (v : Value) → more ≡ done ++ v ∷ [] → (length more == 0) ≡ false
 not_none [] more v is = rw is refl
 not_none (u ∷ us) more v is = rw is (eqb-suc-zero (length (us ++ v ∷ [])))

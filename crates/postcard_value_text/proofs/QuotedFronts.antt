@@ -35,7 +35,7 @@ pieces_begin quote done held a b r black none sign h =
       left = one_rest quote a b one.0 black sign one.1 ∙ whole ∙ ap (λ t. t ++ two.0) text ∙ ap (λ t. flat_map (λ p. p.1) pieces ++ t) (end_taken quote two.0 r two.2);
     }
 
--- No quote is before them.
+-- No quote stands before the pieces that are left.
 pub no_quote : (quote : ℕ) (held a b r : List ℕ) → is_ascii_whitespace quote ≡ false → TakesPhrase (IsQuoted quote held) a r → ((m : List ℕ) → TakesPhrase (IsSign quote) a m → ⊥) → ⊥
 no_quote quote held a b r black h none =
     let one = takes_split (IsSign quote) (Then (ArePieces quote held) (λ end. end ≡ quote ∷ [])) a r h in
@@ -129,7 +129,7 @@ pieces_escape quote done held a b r differs h first = elim (pieces_next quote 92
   | inr (inr k) ↦ record { bytes = k.1.0; after = k.1.1; taken = k.1.2; left = k.1.3 }
 ]
 
--- The escape was read.
+-- The state after an escape was read.
 pub escape_read : (quote : ℕ) (done new held b m r : List ℕ) → (k : EscapeLeft quote done held b r) → (new ≡ done ++ k.bytes) × (m ≡ k.after) → PiecesLeft quote new held m r
 escape_read quote done new held b m r k (is, at) = rw (is, at) k.left
 
@@ -137,7 +137,7 @@ not_joined : (front : List ℕ) (x : ℕ) (r : List ℕ) → [] ≡ front ++ x �
 not_joined [] x r e = not_empty e
 not_joined (y ∷ ys) x r e = not_empty e
 
--- They don't end with the text.
+-- The text doesn't end before the quote.
 pub pieces_not_ended : (quote : ℕ) (done held a r : List ℕ) → PiecesLeft quote done held a r → a ≡ [] → ⊥
 pieces_not_ended quote done held a r h none = not_joined (flat_map (λ p. p.1) h.more) quote r (sym none ∙ h.left)
 
@@ -227,7 +227,7 @@ code_closes count code c a b r h first = by h.digits h.all h.says h.some h.left
     by [] all says some left = (says, h.scalar, omega (arith, some), same_rest (sym first ∙ left))
     by (d ∷ ds) all says some left = absurd (not_a_digit (subst (λ x. digit_value x < 16) (sym (same_first (sym first ∙ left))) all.0))
 
--- It isn't: a digit is.
+-- Another byte is next: it is a digit of the code.
 pub code_digit : (count code c byte : ℕ) (a b r : List ℕ) → CodeLeft count code c a r → a ≡ byte ∷ b → byte ≢ 125 → (digit_value byte < 16) × CodeLeft (count + 1) (code * 16 + digit_value byte) c b r
 code_digit count code c byte a b r h first other = by h.digits h.all h.says h.few h.left
   where

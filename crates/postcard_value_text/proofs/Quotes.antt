@@ -26,7 +26,7 @@ value_more n (x ∷ xs) d = value_more (n * 16 + digit_value x) xs d
 length_more : (ds : List ℕ) (d : ℕ) → length (ds ++ d ∷ []) ≡ length ds + 1
 length_more ds d = grind (arith, common_steps)
 
--- One more digit is taken.
+-- Taking one more digit adds it to the code.
 pub digit_more : (count code d : ℕ) (text rest after : List ℕ) → HasDigits count code text rest → rest ≡ d ∷ after → digit_value d < 16
     → HasDigits (count + 1) (code * 16 + digit_value d) text after
 digit_more count code d text rest after (ds, pass, long, is, whole) next low = (
@@ -151,7 +151,7 @@ escape_shorter old new text rest (held, added, (front, inr (c, code, stands, is,
     let long = ap length whole ∙ length-append front rest in
     omega (arith, long, ap length e)
 
--- One more plain byte, or one more escape.
+-- Taking one more plain byte, or one more escape, adds its bytes.
 pub plain_more : (q byte : ℕ) (held text rest after : List ℕ) → HasPieces q held text rest → rest ≡ byte ∷ after → byte ≢ q → byte ≢ 92 → HasPieces q (held ++ byte ∷ []) text after
 plain_more q byte held text rest after taken next other plain = quoted_more q held (byte ∷ []) (byte ∷ []) text rest after taken (inl (byte, other, plain, refl, refl)) next
 

@@ -39,7 +39,7 @@ pub record Took (N : Type 0) (P : Phrase) (a b : List ℕ) : Type 0 where
   pub taken : TakesPhrase P a b
   pub only : N → (x : List ℕ) → TakesPhrase P a x → b ≡ x
 
--- None is next.
+-- No phrase of P is next.
 abbrev pub Misses : Phrase → List ℕ → Type 0
 Misses P a = (x : List ℕ) → TakesPhrase P a x → ⊥
 
@@ -89,7 +89,7 @@ module _ {T U : Type 0} (see : T → U) (N : Type 0) (R : U → Type 0) (S : U �
     accepted = λ names u x is k goes. h.accepted names u x is (from u x k) goes;
   }
 
-  -- After a phrase of P.
+  -- The answer of a reader that goes on after a phrase of P.
   pub after_phrase : (P : Phrase) {a m b : List ℕ} (r : Result T Stop) → Took N P a m → ReadsText see N R S m r b → ReadsText see N R (λ u. Then P (S u)) a r b
   after_phrase P {a} {m} {b} r p h = record {
     value = h.value;
@@ -102,7 +102,7 @@ module _ {T U : Type 0} (see : T → U) (N : Type 0) (R : U → Type 0) (S : U �
   pub phrase_missed : (P : Phrase) {a b : List ℕ} (e : Stop) → (N → Misses P a) → ReadsText see N R (λ u. Then P (S u)) a (Err e) b
   phrase_missed P {a} e none = refused (λ names u x is k goes. let s = takes_split P (S u) a x k in none names s.0 s.1)
 
-  -- Before a phrase of Q, which a value may stand before.
+  -- The answer of a reader before a phrase of Q, which may follow a value.
   module _ (Q : U → Phrase) (follows : (u : U) (x y : List ℕ) → TakesPhrase (Q u) x y → FollowsValue x) where
     pub before_phrase : {a m b : List ℕ} {v : T} → ReadsText see N R S a (Ok v) m → Took N (Q (see v)) m b → ReadsText see N R (λ u. Then (S u) (Q u)) a (Ok v) b
     before_phrase {a} {m} {b} {v} h q = record {

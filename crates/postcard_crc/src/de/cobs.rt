@@ -59,6 +59,8 @@ struct DecodedFrame<'a> {
     data_len: usize,
 }
 
+/// Decodes the frame at the start of the buffer in place. Returns the buffer and the lengths of its
+/// parts.
 fn decode_frame<'a>(s: &'a mut [u8]) -> DecodedFrame<'a>
     ensures same_loan { result.all.ghost_name ≡ s.entry.ghost_name }
     ensures decodes { IsDecodedFrame s.old result }
