@@ -1,5 +1,5 @@
 -- What was read of a file, through the slices that were passed.
-use Rattle.std.proofs.Common.{◌≡◌, ℕ, true, not, List, sym, ap, subst, ◌∙◌, true≢false, inl, inr}
+use Rattle.std.proofs.Common.{◌≡◌, ℕ, Bool, true, false, not, List, refl, sym, ap, subst, ◌∙◌, true≢false, inl, inr}
 use Rattle.postcard_schema_text.specs.declared.error.Problem.{Problem}
 use Rattle.postcard_schema.specs.declared.schema.Schema.{Schema}
 use Rattle.postcard_schema_text.specs.Fronts.{IsRefusal}
@@ -7,12 +7,12 @@ use Rattle.postcard_schema_text.specs.Grammar.{IsExpression}
 use Rattle.postcard_source.specs.declared.token.Token.{Token}
 use Rattle.postcard_source.specs.declared.declaration.Declaration.{Declaration}
 use Rattle.postcard_source.specs.declared.error.FileProblem.{FileProblem}
-use Rattle.postcard_source.specs.declared.error.FileProblem.TheVariants.{Expression}
-use Rattle.postcard_source.specs.Printed.{is_limit, is_of_type}
+use Rattle.postcard_source.specs.declared.error.FileProblem.TheVariants.{Expression, Parameter}
+use Rattle.postcard_source.specs.Printed.{IsProblemOf, is_limit, is_of_type}
 use Rattle.postcard_source.specs.Lexical.{IsRead}
 use Rattle.postcard_source.specs.Kept.{AreKept}
 use Rattle.postcard_source.specs.Items.{AreDeclarations}
-use Rattle.postcard_source.specs.Expands.{IsSpelledBy, HasProblem}
+use Rattle.postcard_source.specs.Expands.{IsSpelledBy, IsNoType, HasProblem}
 use Rattle.postcard_source.specs.Files.{IsFileOf, IsExpressionOf, HasProblemOf}
 
 pub file_of : (file : List ℕ) (all lent kept shown : List Token) (known : List Declaration) → IsRead file all → lent ≡ all → AreKept lent kept → shown ≡ kept → AreDeclarations shown known → IsFileOf file kept known
@@ -31,27 +31,40 @@ problem_of file name problem kept shown known seen read is_kept is_known problem
     (kept, known, read, subst (λ ts. HasProblem ts known name problem) is_kept (subst (λ ds. HasProblem shown ds name problem) is_known (problems is)))
 
 -- What the declaration stands for is refused as an expression.
-pub problem_of_text : (file name text words : List ℕ) (p : Problem) (kept shown : List Token) (known seen : List Declaration) → IsFileOf file kept known → shown ≡ kept → seen ≡ known
-    → IsSpelledBy shown seen name words → text ≡ words → IsRefusal p ((other : Schema) × IsExpression other text) → HasProblemOf file name (Expression p)
-problem_of_text file name text words p kept shown known seen read is_kept is_known spelled same refusal = λ of_type.
+no_type_of : (file name text words : List ℕ) (p : Problem) (kept shown : List Token) (known seen : List Declaration) → shown ≡ kept → seen ≡ known
+    → IsSpelledBy shown seen name words → text ≡ words → is_limit p ≡ false → IsRefusal p ((other : Schema) × IsExpression other text) → IsNoType kept known name
+no_type_of file name text words p kept shown known seen is_kept is_known spelled same no_limit refusal =
     let held = subst (λ ts. IsSpelledBy ts known name words) is_kept (subst (λ ds. IsSpelledBy shown ds name words) is_known spelled) in (
+      text,
+      subst (IsSpelledBy kept known name) (sym same) held,
+      λ schema is. elim refusal as (λ _. ⊥) [
+        | inl memory ↦ true≢false (ap is_limit (sym memory) ∙ no_limit)
+        | inr none ↦ none (schema, is)
+      ],
+    )
+
+not_limit : (b : Bool) → not b ≡ true → b ≡ false
+not_limit true e = absurd (cc)
+not_limit false e = refl
+
+pub problem_of_text : (file name text words : List ℕ) (p : Problem) (problem : FileProblem) (kept shown : List Token) (known seen : List Declaration) → IsFileOf file kept known → shown ≡ kept → seen ≡ known
+    → IsSpelledBy shown seen name words → text ≡ words → IsRefusal p ((other : Schema) × IsExpression other text) → IsProblemOf p problem → HasProblemOf file name problem
+problem_of_text file name text words p problem kept shown known seen read is_kept is_known spelled same refusal (inl is) =
+    subst (HasProblemOf file name) (sym is) (λ of_type.
+    let none = no_type_of file name text words p kept shown known seen is_kept is_known spelled same (not_limit (is_limit p) of_type) refusal in (
       kept,
       known,
       read,
-      (
-        λ e. absurd (cc),
-        λ e. absurd (cc),
-        λ e. absurd (cc),
-        λ q e. inr (
-          text,
-          subst (IsSpelledBy kept known name) (sym same) held,
-          λ schema is. elim refusal as (λ _. ⊥) [
-            | inl memory ↦ true≢false (sym of_type ∙ ap (λ x. not (is_limit x)) memory)
-            | inr none ↦ none (schema, is)
-          ],
-        ),
-      ),
-    )
+      (λ e. absurd (cc), λ e. absurd (cc), λ e. absurd (cc), λ q e. inr none, λ e. absurd (cc)),
+    ))
+problem_of_text file name text words p problem kept shown known seen read is_kept is_known spelled same refusal (inr (is, no_limit)) =
+    subst (HasProblemOf file name) (sym is) (λ of_type.
+    let none = no_type_of file name text words p kept shown known seen is_kept is_known spelled same no_limit refusal in (
+      kept,
+      known,
+      read,
+      (λ e. absurd (cc), λ e. absurd (cc), λ e. absurd (cc), λ q e. absurd (cc), λ e. none),
+    ))
 
 -- The same problem of the same texts.
 pub problem_moved : (file seen name asked : List ℕ) (p q : FileProblem) → seen ≡ file → asked ≡ name → q ≡ p → HasProblemOf seen asked p → HasProblemOf file name q

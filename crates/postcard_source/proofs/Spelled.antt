@@ -43,6 +43,7 @@ problem_of_declaration tokens known within name d count problem held says is zer
   λ _. (d, held, says, finds d (alone held within is)),
   λ e. absurd (cc),
   λ p e. absurd (cc),
+  λ e. absurd (cc),
 )
 problem_of_declaration tokens known within name d count problem held says is zero (inr (inl (deep, finds))) = (
   λ e. absurd (cc),
@@ -52,12 +53,14 @@ problem_of_declaration tokens known within name d count problem held says is zer
       let (ds, last, chained, long) = finds d (alone held within is) in
       let one = ap length is in
       inl (cc, (d, held, says, (ds, last, chained, omega (arith, one, long)))),
+  λ e. absurd (cc),
 )
 problem_of_declaration tokens known within name d count problem held says is zero (inr (inr (long, (n, enough, more)))) = (
   λ e. absurd (cc),
   λ e. absurd (cc),
   λ _. (d, held, says, (n, omega (arith, zero, enough), more)),
   λ p e. absurd (cc),
+  λ e. absurd (cc),
 )
 
 -- The declaration with the name is written from nothing.

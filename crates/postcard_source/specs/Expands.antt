@@ -5,7 +5,7 @@ use Rattle.postcard_source.specs.declared.declaration.Declaration.{Declaration}
 use Rattle.postcard_source.specs.declared.declaration.Kind.{Kind}
 use Rattle.postcard_source.specs.declared.declaration.Kind.TheVariants.{Enum}
 use Rattle.postcard_source.specs.declared.error.FileProblem.{FileProblem}
-use Rattle.postcard_source.specs.declared.error.FileProblem.TheVariants.{NotDeclared, Recursive, TooLong}
+use Rattle.postcard_source.specs.declared.error.FileProblem.TheVariants.{NotDeclared, Parameter, Recursive, TooLong}
 use Rattle.postcard_source.specs.declared.error.FileProblem.TheVariants as problems
 use Rattle.postcard_schema_text.specs.declared.error.Problem.{Problem}
 use Rattle.postcard_schema_text.specs.declared.error.Problem.TheVariants.{TooDeep}
@@ -127,6 +127,10 @@ abbrev pub IsSpelledBy : List Token → List Declaration → List ℕ → List �
 IsSpelledBy tokens known name text = (d : Declaration) × Contains known d × Says name d.name
     × (IsRecursive tokens known d → ⊥) × Spells tokens known d d.end text
 
+-- The declaration with this name stands for no type expression.
+abbrev pub IsNoType : List Token → List Declaration → List ℕ → Type 0
+IsNoType tokens known name = (text : List ℕ) × IsSpelledBy tokens known name text × ((schema : Schema) → IsExpression schema text → ⊥)
+
 -- If the problem is one of the type with this name. No declaration has the name, or the one that has it is recursive, has too many words or
 -- nests too deeply, or stands for no type expression.
 abbrev pub HasProblem : List Token → List Declaration → List ℕ → FileProblem → Type 0
@@ -136,4 +140,5 @@ HasProblem tokens known name problem =
     × (problem ≡ TooLong → (d : Declaration) × Contains known d × Says name d.name × IsLong tokens known d)
     × ((p : Problem) → problem ≡ problems.Expression p
     → ((p ≡ TooDeep) × ((d : Declaration) × Contains known d × Says name d.name × IsNested tokens known d))
-    ⊎ ((text : List ℕ) × IsSpelledBy tokens known name text × ((schema : Schema) → IsExpression schema text → ⊥)))
+    ⊎ IsNoType tokens known name)
+    × (problem ≡ Parameter → IsNoType tokens known name)

@@ -26,7 +26,7 @@ pub use Rattle.postcard_source.specs.Lexical.{IsLineComment, IsLiteral, IsOtherA
 pub use Rattle.postcard_source.specs.Lexical.{IsPlainAt, IsRead, IsSignAt, IsTokenAt, ReadStep}
 pub use Rattle.postcard_source.specs.Openings.{BeginsType, IsOpened, Opens}
 pub use Rattle.postcard_source.specs.Places.{IsLineStart, IsPlace}
-pub use Rattle.postcard_source.specs.Printed.{file_error_text, file_problem_text, is_of_type}
+pub use Rattle.postcard_source.specs.Printed.{IsProblemOf, file_error_text, file_problem_text, is_of_type}
 pub use Rattle.postcard_source.specs.Raw.{IsHashFront, IsRaw, IsRawOpening, IsRawPrefix, IsRawQuoted}
 pub use Rattle.postcard_source.specs.Tokens.{BeginsName, IsAt, IsBefore, IsName, IsNameAt, IsWordFront}
 pub use Rattle.postcard_source.specs.Tokens.{Says, is_of_word as is_of_word_byte, spelling}

@@ -1,11 +1,11 @@
 -- The texts as which errors of files of declarations are printed.
-use Rattle.std.specs.Prelude.{ℕ, Bool, true, false, not, List, ◌++◌, codes}
+use Rattle.std.specs.Prelude.{◌≡◌, ◌⊎◌, ℕ, Bool, true, false, not, List, ◌++◌, codes}
 use Rattle.std.specs.Fmt.{decimal}
 use Rattle.postcard_schema_text.specs.declared.error.Problem.{Problem}
 use Rattle.postcard_schema_text.specs.declared.error.Problem.TheVariants.{OutOfMemory}
 use Rattle.postcard_schema_text.specs.Printed.{problem_text}
 use Rattle.postcard_source.specs.declared.error.FileProblem.{FileProblem}
-use Rattle.postcard_source.specs.declared.error.FileProblem.TheVariants.{CommentOpen, LiteralOpen, AsciiExpected, BracketOpen, NotOpen, ItemOpen, NameExpected, DeclaredTwice, NotDeclared, Generic, Recursive, BodyExpected, BraceExpected, EqualsExpected, SemicolonExpected, TooLong}
+use Rattle.postcard_source.specs.declared.error.FileProblem.TheVariants.{CommentOpen, LiteralOpen, AsciiExpected, BracketOpen, NotOpen, ItemOpen, NameExpected, DeclaredTwice, NotDeclared, Generic, Recursive, BodyExpected, BraceExpected, EqualsExpected, SemicolonExpected, TooLong, Parameter}
 use Rattle.postcard_source.specs.declared.error.FileProblem.TheVariants as problems
 use Rattle.postcard_source.specs.declared.error.FileError.{FileError}
 
@@ -27,6 +27,7 @@ file_problem_text BraceExpected = codes "expected `{`"
 file_problem_text EqualsExpected = codes "expected `=`"
 file_problem_text SemicolonExpected = codes "expected `;`"
 file_problem_text TooLong = codes "this type is too long"
+file_problem_text Parameter = codes "a parameter such as a capacity isn't supported"
 file_problem_text (problems.Expression problem) = problem_text problem
 
 -- The text of an error: its place and the problem, as in `line 3, column 9: expected a type`.
@@ -38,10 +39,15 @@ abbrev pub is_limit : Problem → Bool
 is_limit OutOfMemory = true
 is_limit problem = false
 
+-- The problem of a file where a type is refused as an expression: that of the expression, or a parameter where no type goes on.
+abbrev pub IsProblemOf : Problem → FileProblem → Type 0
+IsProblemOf p problem = (problem ≡ problems.Expression p) ⊎ ((problem ≡ Parameter) × (is_limit p ≡ false))
+
 -- Whether the problem is one of the type that is asked for: none is declared so, or it has itself in it, is too long, or is no type.
 abbrev pub is_of_type : FileProblem → Bool
 is_of_type NotDeclared = true
 is_of_type Recursive = true
 is_of_type TooLong = true
+is_of_type Parameter = true
 is_of_type (problems.Expression problem) = not (is_limit problem)
 is_of_type problem = false

@@ -41,6 +41,8 @@ pub enum FileProblem {
     SemicolonExpected,
     /// With its names replaced, the type has more than 65,536 words and signs.
     TooLong,
+    /// A type has a parameter that isn't supported, such as the capacity in `heapless::Vec<u8, 4>`.
+    Parameter,
     /// What is wrong is found as the type is read, with its names replaced.
     Expression(Problem),
 }
@@ -66,6 +68,9 @@ impl fmt::Display for FileProblem {
             FileProblem::EqualsExpected => f.write_str("expected `=`"),
             FileProblem::SemicolonExpected => f.write_str("expected `;`"),
             FileProblem::TooLong => f.write_str("this type is too long"),
+            FileProblem::Parameter => {
+                f.write_str("a parameter such as a capacity isn't supported")
+            }
             FileProblem::Expression(problem) => write!(f, "{problem}"),
         }
     }

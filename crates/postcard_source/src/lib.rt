@@ -48,7 +48,7 @@ pub use error::{FileError, FileProblem};
 use expand::words_of;
 use kept::kept;
 use lex::tokens;
-use place::{error_at, left_of, spelled};
+use place::{error_at, left_of, problem_of, spelled};
 use postcard_schema::Schema;
 use postcard_schema_text::parse;
 use std::alloc::Global;
@@ -113,7 +113,7 @@ fn read(alloc: Global, file: &[u8], name: &[u8]) -> Result<Found, ProblemAt>
     match parse(alloc, text.as_str()) {
         Ok(schema) => Ok(Found { text, schema }),
         Err(e) => Err(ProblemAt {
-            problem: FileProblem::Expression(e.problem),
+            problem: problem_of(words.as_slice(), &e),
             left: left_of(words.as_slice(), e.character),
         }),
     }

@@ -2,11 +2,12 @@
 
 ghost use Rattle.std.specs.Prelude.{◌≡◌, ◌+◌, ◌-◌, ◌≤◌, ◌==◌, [], ◌∷◌, ◌++◌, false, length, take};
 ghost use Rattle.std.specs.Prelude.{count_by, IfOk, IfErr, OnOk, string_bytes};
-ghost use Rattle.postcard_source.specs.{IsLineStart, IsPlace, is_of_type, spelling};
+ghost use Rattle.postcard_source.specs.{IsLineStart, IsPlace, IsProblemOf, is_of_type, spelling};
 
 use crate::error::{FileError, FileProblem, ProblemAt, out_of_memory};
 use crate::token::Token;
 use postcard_schema_text::scan::character_of;
+use postcard_schema_text::{ExpressionError, Problem};
 use std::alloc::Global;
 
 /// Returns the text of the words: each of them and a blank. Fails with `AsciiExpected` at a word
@@ -56,6 +57,30 @@ pub fn left_of(words: &[Token], character: usize) -> usize {
         characters = characters.saturating_sub(word.text.len()).saturating_sub(1);
     }
     left
+}
+
+/// Returns the problem of a file whose words are refused with this error.
+pub fn problem_of(words: &[Token], error: &ExpressionError) -> FileProblem
+    ensures { IsProblemOf error.now.problem result }
+{
+    let left = left_of(words, error.character);
+    match error.problem {
+        Problem::GreaterExpected if is_at_place(words, left, b",") => FileProblem::Parameter,
+        Problem::GreaterExpected
+        | Problem::CommaExpected
+        | Problem::CommaOrParenthesis
+        | Problem::CommaOrBrace
+        | Problem::SemicolonOrBracket
+            if is_at_place(words, left, b"<") => { FileProblem::Parameter }
+        problem => FileProblem::Expression(problem),
+    }
+}
+
+/// Returns whether the word with this number of bytes from it on is this sign.
+fn is_at_place(words: &[Token], left: usize, sign: &[u8]) -> bool {
+    words
+        .iter()
+        .any(|word| word.left == left && word.text == sign)
 }
 
 /// Returns the error of a problem, with its line and column.

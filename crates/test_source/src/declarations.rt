@@ -167,7 +167,7 @@ const TYPES: [Row; 27] = [
 ];
 
 /// Files in which something is wrong.
-const REFUSED: [Row; 38] = [
+const REFUSED: [Row; 43] = [
     ("", "A", "line 1, column 1: no declaration has the name"),
     (
         "struct B;\n",
@@ -200,6 +200,31 @@ const REFUSED: [Row; 38] = [
         "struct A { b: u8 c: u8 }",
         "A",
         "line 1, column 18: expected `,` or `}`",
+    ),
+    (
+        "struct A { b: heapless::Vec<u8, 4> }",
+        "A",
+        "line 1, column 31: a parameter such as a capacity isn't supported",
+    ),
+    (
+        "struct A(String<4>);",
+        "A",
+        "line 1, column 16: a parameter such as a capacity isn't supported",
+    ),
+    (
+        "type A = [String<4>; 2];",
+        "A",
+        "line 1, column 17: a parameter such as a capacity isn't supported",
+    ),
+    (
+        "struct A(HashMap<u8, u8, S>);",
+        "A",
+        "line 1, column 24: a parameter such as a capacity isn't supported",
+    ),
+    (
+        "struct A(Vec<u8 u8>);",
+        "A",
+        "line 1, column 17: expected `>`",
     ),
     (
         "struct A { b: u8, b: u8 }",

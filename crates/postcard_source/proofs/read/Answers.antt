@@ -28,10 +28,10 @@ returns-in-Ok-clause-spelled c =
 
 pub returns-clause-problem : goal.returns-clause-problem
 returns-clause-problem c =
-    problem_of_text c.args.file.now c.args.name.now _ _ c.in-Err.e.problem _ _ _ _
+    problem_of_text c.args.file.now c.args.name.now _ _ c.in-Err.e.problem c.problem_of.result _ _ _ _
     (file_of c.args.file.now _ _ _ _ _ c.in_ok-all.ensures.read c.as_slice.ensures.value c.in_ok-kept.ensures.kept c.as_slice-2.ensures.value c.in_ok-known.ensures.declared)
     c.as_slice-3.ensures.value c.as_slice-4.ensures.value c.in_ok-words.ensures.spelled
-    (c.as_str.ensures.value ∙ c.in_ok-text.ensures.spelled ∙ ap spelling c.as_slice-5.ensures.value) c.in-Err.ensures.refused
+    (c.as_str.ensures.value ∙ c.in_ok-text.ensures.spelled ∙ ap spelling c.as_slice-5.ensures.value) c.in-Err.ensures.refused c.problem_of.ensures
 
 pub returns-in-Ok-clause-opens : goal.returns-in-Ok-clause-opens
 returns-in-Ok-clause-opens c =
