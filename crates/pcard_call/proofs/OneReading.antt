@@ -6,7 +6,7 @@ use lib.Pointwise.{pointwise}
 use Rattle.pcard_call.specs.declared.verb.Verb.{Verb}
 use Rattle.pcard_call.specs.declared.verb.Verb.TheVariants as verbs
 use Rattle.pcard_call.specs.declared.options.OptionName.{OptionName}
-use Rattle.pcard_call.specs.declared.options.OptionName.TheVariants.{Checksum, Longest, Json, Frame, All, Hex, Raw}
+use Rattle.pcard_call.specs.declared.options.OptionName.TheVariants.{Checksum, Longest, Json, Frame, All, Hex, Raw, Names}
 use Rattle.pcard_call.specs.declared.misuse.Misuse.{Misuse}
 use Rattle.pcard_call.specs.declared.misuse.Misuse.TheVariants.{NoVerb, UnknownVerb, UnknownOption, Untaken, Twice, NoValue, BadValue, Operands}
 use Rattle.pcard_call.specs.Words.{verb_name}
@@ -22,7 +22,7 @@ verb_of word =
     if is word (codes "enc") then Some verbs.Encode else if is word (codes "dec") then Some verbs.Decode else
     if is word (codes "decs") then Some verbs.DecodeAll else if is word (codes "frames") then Some verbs.Frames else
     if is word (codes "explain") then Some verbs.Explain else if is word (codes "size") then Some verbs.Size else
-    if is word (codes "crc") then Some verbs.Checksum else Some verbs.Types
+    if is word (codes "key") then Some verbs.Key else if is word (codes "crc") then Some verbs.Checksum else Some verbs.Types
 
 verb_is : (v : Verb) → verb_of (verb_name v) ≡ Some v
 verb_is verbs.Encode = refl
@@ -31,6 +31,7 @@ verb_is verbs.DecodeAll = refl
 verb_is verbs.Frames = refl
 verb_is verbs.Explain = refl
 verb_is verbs.Size = refl
+verb_is verbs.Key = refl
 verb_is verbs.Checksum = refl
 verb_is verbs.Types = refl
 
@@ -42,7 +43,7 @@ abbrev option_from : List ℕ → Option OptionName
 option_from word =
     if is word (codes "--crc") then Some Checksum else if is word (codes "--longest") then Some Longest else
     if is word (codes "--json") then Some Json else if is word (codes "--frame") then Some Frame else
-    if is word (codes "--all") then Some All else if is word (codes "--hex") then Some Hex else Some Raw
+    if is word (codes "--all") then Some All else if is word (codes "--hex") then Some Hex else if is word (codes "--raw") then Some Raw else Some Names
 
 option_is : (o : OptionName) → option_from (option_name o) ≡ Some o
 option_is Checksum = refl
@@ -52,6 +53,7 @@ option_is Frame = refl
 option_is All = refl
 option_is Hex = refl
 option_is Raw = refl
+option_is Names = refl
 
 -- Different options have different names.
 pub same_option : (o p : OptionName) → option_name o ≡ option_name p → o ≡ p
@@ -66,6 +68,7 @@ begins Frame = refl
 begins All = refl
 begins Hex = refl
 begins Raw = refl
+begins Names = refl
 
 -- A value is added in one way.
 pub same_value : (o : OptionName) (value : List ℕ) (g h k : Given) → WithValue o value g h → WithValue o value g k → h ≡ k
@@ -76,6 +79,7 @@ same_value Frame value g h k a b = absurd a
 same_value All value g h k a b = absurd a
 same_value Hex value g h k a b = absurd a
 same_value Raw value g h k a b = absurd a
+same_value Names value g h k a b = absurd a
 
 same_first : {x y : List ℕ} {xs ys : Words} → x ∷ xs ≡ y ∷ ys → x ≡ y
 same_first e = cc

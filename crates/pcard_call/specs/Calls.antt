@@ -51,6 +51,7 @@ fits verbs.Explain g words = if g.raw then names_input words else nat_eq (length
 fits verbs.Frames g words = if g.hex then (if g.raw then false else nat_eq (length words) 2) else if g.raw then names_input words else
     if nat_eq (length words) 1 then true else if nat_eq (length words) 0 then is_empty g else false
 fits verbs.Size g words = nat_eq (length words) 1
+fits verbs.Key g words = nat_eq (length words) 1
 fits verbs.Checksum g words = if nat_eq (length words) 0 then true else nat_eq (length words) 2
 fits verbs.Types g words = nat_eq (length words) 0
 

@@ -4,7 +4,7 @@ use Rattle.std.specs.Str.Parse.{IsNumeral, digits_value, without_leading_plus}
 use Rattle.pcard_call.specs.declared.verb.Verb.{Verb}
 use Rattle.pcard_call.specs.declared.verb.Verb.TheVariants as verbs
 use Rattle.pcard_call.specs.declared.options.OptionName.{OptionName}
-use Rattle.pcard_call.specs.declared.options.OptionName.TheVariants.{Checksum, Longest, Json, Frame, All, Hex, Raw}
+use Rattle.pcard_call.specs.declared.options.OptionName.TheVariants.{Checksum, Longest, Json, Frame, All, Hex, Raw, Names}
 use Rattle.pcard_call.specs.declared.options.Options.{Options}
 
 abbrev pub option_name : OptionName → List ℕ
@@ -15,6 +15,7 @@ option_name Frame = codes "--frame"
 option_name All = codes "--all"
 option_name Hex = codes "--hex"
 option_name Raw = codes "--raw"
+option_name Names = codes "--names"
 
 -- Whether a value stands after the option.
 abbrev pub has_value : OptionName → Bool
@@ -41,6 +42,7 @@ takes verbs.Frames Frame = false
 takes verbs.Frames Longest = true
 takes verbs.Frames Hex = true
 takes verbs.Frames option = is_of_messages option
+takes verbs.Key Names = true
 takes verb option = false
 
 -- What the value of an option is.
@@ -57,6 +59,7 @@ usage_of verbs.DecodeAll = codes "[--crc NAME] [--json] [--frame] TYPE HEX, or -
 usage_of verbs.Explain = codes "[--all] [--crc NAME] [--json] [--frame] TYPE HEX, or --raw TYPE [@FILE]"
 usage_of verbs.Frames = codes "[--crc NAME] [--json] [--longest N] [TYPE], --hex TYPE HEX, or --raw TYPE [@FILE]"
 usage_of verbs.Size = codes "TYPE"
+usage_of verbs.Key = codes "[--names] TYPE"
 usage_of verbs.Checksum = codes "NAME HEX, or no word more"
 usage_of verbs.Types = codes "no word more"
 
@@ -69,6 +72,7 @@ pub record Given : Type 0 where
   pub all : Bool
   pub hex : Bool
   pub raw : Bool
+  pub names : Bool
 
 abbrev pub given_of : Options → Given
 given_of o = record {
@@ -79,10 +83,11 @@ given_of o = record {
   all = o.all;
   hex = o.hex;
   raw = o.raw;
+  names = o.names;
 }
 
 abbrev pub nothing_given : Given
-nothing_given = record { checksum = None; longest = None; json = false; frame = false; all = false; hex = false; raw = false }
+nothing_given = record { checksum = None; longest = None; json = false; frame = false; all = false; hex = false; raw = false; names = false }
 
 -- Whether the option is given.
 abbrev pub is_given : OptionName → Given → Bool
@@ -93,11 +98,12 @@ is_given Frame g = g.frame
 is_given All g = g.all
 is_given Hex g = g.hex
 is_given Raw g = g.raw
+is_given Names g = g.names
 
 -- Whether no option is given.
 abbrev pub is_empty : Given → Bool
 is_empty g = if is_some g.checksum then false else if is_some g.longest then false else if g.json then false else if g.frame then false else
-    if g.all then false else if g.hex then false else if g.raw then false else true
+    if g.all then false else if g.hex then false else if g.raw then false else if g.names then false else true
 
 -- The options and one more that has no value.
 abbrev pub with_switch : OptionName → Given → Given
@@ -106,6 +112,7 @@ with_switch Frame g = record g { frame = true }
 with_switch All g = record g { all = true }
 with_switch Hex g = record g { hex = true }
 with_switch Raw g = record g { raw = true }
+with_switch Names g = record g { names = true }
 with_switch option g = g
 
 -- The word is a number from 1 to 65,536, in decimal digits.

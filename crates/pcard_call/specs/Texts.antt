@@ -7,7 +7,7 @@ use Rattle.pcard_call.specs.Options.{option_name, usage_of, value_of}
 
 abbrev pub misuse_text : Misuse → List ℕ
 misuse_text NoVerb = codes "a command is missing; pcard --help prints the calls"
-misuse_text (UnknownVerb word) = codes "unknown command " ++ (word.now ++ codes ": there are enc, dec, decs, frames, explain, size, compat, crc, types, impl, c, python and demo")
+misuse_text (UnknownVerb word) = codes "unknown command " ++ (word.now ++ codes ": there are enc, dec, decs, frames, explain, size, key, compat, crc, types, impl, c, python and demo")
 misuse_text (UnknownOption verb word) = codes "unknown option " ++ (word.now ++ (codes "; " ++ (verb_name verb ++ (codes " takes " ++ usage_of verb))))
 misuse_text (Untaken verb option) = verb_name verb ++ (codes " takes no " ++ (option_name option ++ (codes ", but " ++ usage_of verb)))
 misuse_text (Twice option) = option_name option ++ codes " stands twice"

@@ -125,7 +125,7 @@ fn fit(verb: Verb, options: &Options<'_>, operands: &[String]) -> bool
         Verb::Frames if options.hex => !options.raw && operands.len() == 2,
         Verb::Frames if options.raw => name_input(operands),
         Verb::Frames => operands.len() == 1 || operands.is_empty() && options.is_empty(),
-        Verb::Size => operands.len() == 1,
+        Verb::Size | Verb::Key => operands.len() == 1,
         Verb::Checksum => operands.is_empty() || operands.len() == 2,
         Verb::Types => operands.is_empty(),
     }

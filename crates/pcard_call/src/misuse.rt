@@ -37,7 +37,7 @@ impl fmt::Display for Misuse<'_> {
             Misuse::NoVerb => f.write_str("a command is missing; pcard --help prints the calls"),
             Misuse::UnknownVerb(word) => write!(
                 f,
-                "unknown command {word}: there are enc, dec, decs, frames, explain, size, compat, crc, types, impl, c, python and demo"
+                "unknown command {word}: there are enc, dec, decs, frames, explain, size, key, compat, crc, types, impl, c, python and demo"
             ),
             Misuse::UnknownOption(verb, word) => {
                 let (name, usage) = (verb.name(), verb.usage());

@@ -28,6 +28,8 @@ pub enum OptionName {
     Hex,
     /// `--raw`
     Raw,
+    /// `--names`
+    Names,
 }
 
 impl OptionName {
@@ -44,6 +46,7 @@ impl OptionName {
             "--all" => Some(OptionName::All),
             "--hex" => Some(OptionName::Hex),
             "--raw" => Some(OptionName::Raw),
+            "--names" => Some(OptionName::Names),
             _ => None,
         }
     }
@@ -60,6 +63,7 @@ impl OptionName {
             OptionName::All => "--all",
             OptionName::Hex => "--hex",
             OptionName::Raw => "--raw",
+            OptionName::Names => "--names",
         }
     }
 
@@ -92,8 +96,15 @@ impl OptionName {
                     OptionName::Checksum | OptionName::Json | OptionName::Frame | OptionName::Raw
                 )
             }
-            Verb::Explain => !matches!(self, OptionName::Longest | OptionName::Hex),
-            Verb::Frames => !matches!(self, OptionName::Frame | OptionName::All),
+            Verb::Explain => !matches!(
+                self,
+                OptionName::Longest | OptionName::Hex | OptionName::Names
+            ),
+            Verb::Frames => !matches!(
+                self,
+                OptionName::Frame | OptionName::All | OptionName::Names
+            ),
+            Verb::Key => self == OptionName::Names,
             Verb::Size | Verb::Checksum | Verb::Types => false,
         }
     }
@@ -114,6 +125,7 @@ impl Verb {
             Verb::Frames =>
                 "[--crc NAME] [--json] [--longest N] [TYPE], --hex TYPE HEX, or --raw TYPE [@FILE]",
             Verb::Size => "TYPE",
+            Verb::Key => "[--names] TYPE",
             Verb::Checksum => "NAME HEX, or no word more",
             Verb::Types => "no word more",
         }
@@ -137,6 +149,8 @@ pub struct Options<'a> {
     pub hex: bool,
     /// `--raw`: messages are given, or for `enc` printed, as bytes.
     pub raw: bool,
+    /// `--names`: the names of fields and variants count.
+    pub names: bool,
 }
 
 impl<'a> Options<'a> {
@@ -152,6 +166,7 @@ impl<'a> Options<'a> {
             all: false,
             hex: false,
             raw: false,
+            names: false,
         }
     }
 
@@ -167,6 +182,7 @@ impl<'a> Options<'a> {
             OptionName::All => self.all,
             OptionName::Hex => self.hex,
             OptionName::Raw => self.raw,
+            OptionName::Names => self.names,
         }
     }
 
@@ -183,6 +199,10 @@ impl<'a> Options<'a> {
             OptionName::All => Options { all: true, ..self },
             OptionName::Hex => Options { hex: true, ..self },
             OptionName::Raw => Options { raw: true, ..self },
+            OptionName::Names => Options {
+                names: true,
+                ..self
+            },
             OptionName::Checksum | OptionName::Longest => self,
         }
     }
@@ -224,6 +244,7 @@ impl<'a> Options<'a> {
             && !self.all
             && !self.hex
             && !self.raw
+            && !self.names
     }
 }
 

@@ -18,6 +18,8 @@ pub enum Verb {
     Explain,
     /// `size`: prints how many bytes the messages of a type have.
     Size,
+    /// `key`: prints the key of a type.
+    Key,
     /// `crc`: computes a checksum, or lists the algorithms.
     Checksum,
     /// `types`: prints how a type is written.
@@ -37,6 +39,7 @@ impl Verb {
             "frames" => Some(Verb::Frames),
             "explain" => Some(Verb::Explain),
             "size" => Some(Verb::Size),
+            "key" => Some(Verb::Key),
             "crc" => Some(Verb::Checksum),
             "types" => Some(Verb::Types),
             _ => None,
@@ -54,6 +57,7 @@ impl Verb {
             Verb::Frames => "frames",
             Verb::Explain => "explain",
             Verb::Size => "size",
+            Verb::Key => "key",
             Verb::Checksum => "crc",
             Verb::Types => "types",
         }

@@ -24,7 +24,7 @@ module _ (syntax : List ℕ) (reads : ℕ) (steady : Type 0) (verb : Verb) (give
   typed_plain mid (Ok done) typed e = rw typed e
   typed_plain mid (Err f) typed e = rw typed e
 
-  other_plain : (mid : Option (List ℕ)) (r : Result (Unit {0}) Failure) → is_typed verb operands ≡ false → EndsOther syntax reads steady verb operands known left old mid r
+  other_plain : (mid : Option (List ℕ)) (r : Result (Unit {0}) Failure) → is_typed verb operands ≡ false → EndsOther syntax reads steady verb given operands known left old mid r
       → EndsPlain syntax reads steady verb given operands known left old mid r
   other_plain mid (Ok done) other e = rw other e
   other_plain mid (Err f) other e = rw other e
@@ -34,6 +34,6 @@ module _ (syntax : List ℕ) (reads : ℕ) (steady : Type 0) (verb : Verb) (give
       → IsReported (EndsPlain syntax reads steady verb given operands known left old) new status
   typed_reported typed (outcome, mid, ended, reports) = (outcome, mid, typed_plain mid outcome typed ended, reports)
 
-  pub other_reported : is_typed verb operands ≡ false → IsReported (EndsOther syntax reads steady verb operands known left old) new status
+  pub other_reported : is_typed verb operands ≡ false → IsReported (EndsOther syntax reads steady verb given operands known left old) new status
       → IsReported (EndsPlain syntax reads steady verb given operands known left old) new status
   other_reported other (outcome, mid, ended, reports) = (outcome, mid, other_plain mid outcome other ended, reports)

@@ -20,6 +20,7 @@ use Rattle.pcard_message.specs.declared.format.Format.{Format}
 use Rattle.pcard_calls.specs.Checksums.{ChecksumFails, PrintsChecksum}
 use Rattle.pcard_calls.specs.Explain.{ExplainFails, PrintsExplained}
 use Rattle.pcard_calls.specs.Frames.{FramesFail, PrintsAnswers}
+use Rattle.pcard_calls.specs.Key.{KeyFails, PrintsKey}
 use Rattle.pcard_calls.specs.Named.{EncodingFails, Form, NamedDecodeFails, PrintsEncoding, PrintsNamedDecode, form_of}
 use Rattle.pcard_calls.specs.Requests.{IsNoCall, IsRequest, first_word, second_word}
 use Rattle.pcard_calls.specs.Size.{PrintsSize, SizeFails}
@@ -112,31 +113,34 @@ TypedFails reads steady verb given operands known left old new failure =
     ⊎ ((format : Format) × IsFormat given (first_word operands) format
     × FailsWith reads steady format verb given (second_word operands) known left old new failure)
 
--- Whether a call is about messages of a type: it isn't `types`, `size` or `crc`, nor `frames` alone.
+-- Whether a call is about messages of a type: it isn't `types`, `size`, `key` or `crc`, nor `frames` alone.
 abbrev pub is_typed : Verb → List (List ℕ) → Bool
 is_typed verbs.Types operands = false
 is_typed verbs.Size operands = false
+is_typed verbs.Key operands = false
 is_typed verbs.Checksum operands = false
 is_typed verbs.Frames [] = false
 is_typed verb operands = true
 
--- What any other call prints, where `syntax` is the text that `types` prints: `types`, `size`, `crc`, or else `frames` alone.
-abbrev pub PrintsOther : List ℕ → Verb → List (List ℕ) → Option (List ℕ) → Option (List ℕ) → Option (List ℕ) → Option (List ℕ) → Type 0
-PrintsOther syntax verbs.Types operands known left old new = Appends old new syntax
-PrintsOther syntax verbs.Size operands known left old new = PrintsSize (first_word operands) old new
-PrintsOther syntax verbs.Checksum operands known left old new = PrintsChecksums operands known left old new
-PrintsOther syntax verb operands known left old new = PrintsAnswers known left old new
+-- What any other call prints, where `syntax` is the text that `types` prints: `types`, `size`, `key`, `crc`, or else `frames` alone.
+abbrev pub PrintsOther : List ℕ → Verb → Given → List (List ℕ) → Option (List ℕ) → Option (List ℕ) → Option (List ℕ) → Option (List ℕ) → Type 0
+PrintsOther syntax verbs.Types given operands known left old new = Appends old new syntax
+PrintsOther syntax verbs.Size given operands known left old new = PrintsSize (first_word operands) old new
+PrintsOther syntax verbs.Key given operands known left old new = PrintsKey (first_word operands) given.names old new
+PrintsOther syntax verbs.Checksum given operands known left old new = PrintsChecksums operands known left old new
+PrintsOther syntax verb given operands known left old new = PrintsAnswers known left old new
 
 abbrev pub OtherFails : ℕ → Type 0 → Verb → List (List ℕ) → Option (List ℕ) → Option (List ℕ) → Option (List ℕ) → Option (List ℕ) → Failure → Type 0
 OtherFails reads steady verbs.Types operands known left old new failure = failure ≡ Output
 OtherFails reads steady verbs.Size operands known left old new failure = SizeFails (first_word operands) failure
+OtherFails reads steady verbs.Key operands known left old new failure = KeyFails (first_word operands) failure
 OtherFails reads steady verbs.Checksum operands known left old new failure = ChecksumsFail reads steady operands known left failure
 OtherFails reads steady verb operands known left old new failure = FramesFail steady known left old new failure
 
 -- What a call prints, where the input has the bytes `known` before the call and `left` after it, and the output has `old` and `new`.
 abbrev pub Prints : List ℕ → Verb → Given → List (List ℕ) → Option (List ℕ) → Option (List ℕ) → Option (List ℕ) → Option (List ℕ) → Type 0
 Prints syntax verb given operands known left old new =
-    MatchBool (is_typed verb operands) (PrintsTyped verb given operands known left old new) (PrintsOther syntax verb operands known left old new)
+    MatchBool (is_typed verb operands) (PrintsTyped verb given operands known left old new) (PrintsOther syntax verb given operands known left old new)
 
 -- The failures of a call. A steady input's reads don't fail.
 abbrev pub Fails : ℕ → Type 0 → Verb → Given → List (List ℕ) → Option (List ℕ) → Option (List ℕ) → Option (List ℕ) → Option (List ℕ) → Failure → Type 0
@@ -151,9 +155,9 @@ EndsTyped reads steady verb given operands known left old new outcome =
     (λ failure. TypedFails reads steady verb given operands known left old new failure)
 
 -- The same of another call, and of any call whose TYPE is no name.
-abbrev pub EndsOther : List ℕ → ℕ → Type 0 → Verb → List (List ℕ) → Option (List ℕ) → Option (List ℕ) → Option (List ℕ) → Option (List ℕ) → Result (Unit {0}) Failure → Type 0
-EndsOther syntax reads steady verb operands known left old new outcome =
-    MatchResult outcome (λ done. PrintsOther syntax verb operands known left old new)
+abbrev pub EndsOther : List ℕ → ℕ → Type 0 → Verb → Given → List (List ℕ) → Option (List ℕ) → Option (List ℕ) → Option (List ℕ) → Option (List ℕ) → Result (Unit {0}) Failure → Type 0
+EndsOther syntax reads steady verb given operands known left old new outcome =
+    MatchResult outcome (λ done. PrintsOther syntax verb given operands known left old new)
     (λ failure. OtherFails reads steady verb operands known left old new failure)
 
 abbrev pub EndsPlain : List ℕ → ℕ → Type 0 → Verb → Given → List (List ℕ) → Option (List ℕ) → Option (List ℕ) → Option (List ℕ) → Option (List ℕ) → Result (Unit {0}) Failure → Type 0

@@ -3,6 +3,7 @@ pub mod Checksums
 pub mod Ends
 pub mod Explain
 pub mod Frames
+pub mod Key
 pub mod Named
 pub mod Names
 pub mod Requests
@@ -35,12 +36,14 @@ pub use Rattle.pcard_calls.specs.Ends.{exit_status, last_line}
 pub use Rattle.pcard_calls.specs.Explain.{ExplainFails, PrintsExplained, PrintsFrameRows}
 pub use Rattle.pcard_calls.specs.Explain.{PrintsRowsOf, most_of, trailer_after}
 pub use Rattle.pcard_calls.specs.Frames.{FramesFail, PrintsAnswers, answer_line}
+pub use Rattle.pcard_calls.specs.Key.{IsKeyOf, KeyFails, PrintsKey}
 pub use Rattle.pcard_calls.specs.Named.{Converts, NamedDecodeFails, PrintingFails}
 pub use Rattle.pcard_calls.specs.Named.{PrintsNamedDecode, form_of, list_of, one_word, whole_word}
 pub use Rattle.pcard_calls.specs.Names.{IsWordOf, begins_expression, looks_like_expression}
 pub use Rattle.pcard_calls.specs.Names.{name_of}
 pub use Rattle.pcard_calls.specs.Requests.{IsNoCall, IsRequest, IsTypeWord, IsWhyNoCall}
-pub use Rattle.pcard_calls.specs.Requests.{first_word, no_call_text, second_word, takes_name}
+pub use Rattle.pcard_calls.specs.Requests.{first_word, has_colon, is_string, no_call_text}
+pub use Rattle.pcard_calls.specs.Requests.{second_word, takes_name}
 pub use Rattle.pcard_calls.specs.Size.{PrintsSize, SizeFails, bounded_text, endless_text}
 pub use Rattle.pcard_calls.specs.Size.{first_text, least_number, others_text, parts_text}
 pub use Rattle.pcard_calls.specs.Size.{span_text}

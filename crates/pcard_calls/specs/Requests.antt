@@ -1,5 +1,7 @@
 -- Which words are a request, and why others are none.
-use Rattle.std.specs.Prelude.{◌≡◌, ℕ, Bool, true, false, List, [], ◌∷◌, ◌++◌, codes}
+use Rattle.std.specs.Prelude.{◌≡◌, ℕ, nat_eq, Bool, true, false, if◌then◌else◌, List, [], ◌∷◌, ◌++◌, codes}
+use Rattle.std.specs.List.{list_any}
+use lib.Pointwise.{pointwise}
 use Rattle.pcard_call.specs.Calls.{IsCall, IsMisuse}
 use Rattle.pcard_call.specs.Options.{Given, is_empty}
 use Rattle.pcard_call.specs.Texts.{misuse_text}
@@ -46,6 +48,20 @@ IsWhyNoCall words (Misuse misuse) = IsMisuse words misuse
 IsWhyNoCall words (UnknownType word) =
     (verb : Verb) × (given : Given) × (operands : List (List ℕ)) × IsCall words verb given operands × (word.now ≡ first_word operands)
 
+-- The name that Rust gives the strings.
+abbrev pub is_string : List ℕ → Bool
+is_string word = pointwise nat_eq word (codes "String")
+
+-- The word has a colon, as one that names a type in a file.
+abbrev pub has_colon : List ℕ → Bool
+has_colon word = list_any (λ b. nat_eq b 58) word
+
+-- What would do in the place of a word that is no type.
+abbrev pub hint_text : List ℕ → List ℕ
+hint_text word =
+    if is_string word then codes "; a string is str" else
+    if has_colon word then codes "; a type in a file is @" ++ word else codes "; pcard types prints how a type is written"
+
 abbrev pub no_call_text : NoCall → List ℕ
 no_call_text (Misuse misuse) = misuse_text misuse
-no_call_text (UnknownType word) = codes "unknown type " ++ (word.now ++ codes "; pcard types prints how a type is written")
+no_call_text (UnknownType word) = codes "unknown type " ++ (word.now ++ hint_text word.now)

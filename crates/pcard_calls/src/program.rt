@@ -12,7 +12,7 @@ use crate::messages::perform;
 use crate::names::{TypeWord, ValueType};
 use crate::request::{Request, first, second};
 use crate::syntax::SYNTAX;
-use crate::{checksums, frames, size, syntax};
+use crate::{checksums, frames, key, size, syntax};
 use pcard_call::{Call, Verb};
 use pcard_message::{Failure, format_of};
 use postcard_de_flavors::Reader;
@@ -139,14 +139,14 @@ fn is_typed(verb: Verb, operands: &[String]) -> bool
     match operands {
         [] => !matches!(
             verb,
-            Verb::Types | Verb::Size | Verb::Checksum | Verb::Frames
+            Verb::Types | Verb::Size | Verb::Key | Verb::Checksum | Verb::Frames
         ),
-        [_, ..] => !matches!(verb, Verb::Types | Verb::Size | Verb::Checksum),
+        [_, ..] => !matches!(verb, Verb::Types | Verb::Size | Verb::Key | Verb::Checksum),
     }
 }
 
-/// Does a call that is not about messages of a type, and ends it: `types`, `size`, `crc`, or else
-/// `frames` alone.
+/// Does a call that is not about messages of a type, and ends it: `types`, `size`, `key`, `crc`, or
+/// else `frames` alone.
 fn answer_other<R: Reader, W: Write>(
     alloc: Global,
     call: &Call<'_>,
@@ -154,13 +154,20 @@ fn answer_other<R: Reader, W: Write>(
     output: &mut W,
 ) -> u8
     ensures { IsReported (EndsOther SYNTAX.now READS (R.steady input.old)
-        call.now.verb (map string_bytes call.now.operands.now)
+        call.now.verb (given_of call.now.options) (map string_bytes call.now.operands.now)
         (R.remaining input.old) (R.remaining input.new) (W.contents output.old))
         (W.contents output.new) result }
 {
     match call.verb {
         Verb::Types => report(do_types(output), output),
         Verb::Size => report(size::print(alloc, first(call.operands), output), output),
+        Verb::Key => {
+            let names = call.options.names;
+            report(
+                key::print(alloc, first(call.operands), names, output),
+                output,
+            )
+        }
         Verb::Checksum => report(do_checksum(alloc, call.operands, input, output), output),
         _ => report(frames::print(alloc, input, output), output),
     }

@@ -3,7 +3,8 @@
 ghost use Rattle.std.specs.Prelude.{◌≡◌, IfErr, IfNone, IfOk, IfSome, OnErr, Some, map};
 ghost use Rattle.std.specs.Prelude.{string_bytes};
 ghost use Rattle.pcard_calls.specs.{IsNoCall, IsRequest, IsTypeWord, IsWhyNoCall, TypeWord};
-ghost use Rattle.pcard_calls.specs.{first_word, given_of, no_call_text, second_word, takes_name};
+ghost use Rattle.pcard_calls.specs.{first_word, given_of, has_colon, is_string, no_call_text};
+ghost use Rattle.pcard_calls.specs.{second_word, takes_name};
 
 use crate::names::TypeWord;
 use pcard_call::{Call, Misuse, Verb};
@@ -33,6 +34,12 @@ impl fmt::Display for NoCall<'_> {
     fn fmt<W: fmt::Write>(&self, f: &mut fmt::Formatter<W>) -> fmt::Result {
         match self {
             NoCall::Misuse(misuse) => misuse.fmt(f),
+            NoCall::UnknownType(word) if is_string(word) => {
+                write!(f, "unknown type {word}; a string is str")
+            }
+            NoCall::UnknownType(word) if has_colon(word) => {
+                write!(f, "unknown type {word}; a type in a file is @{word}")
+            }
             NoCall::UnknownType(word) => write!(
                 f,
                 "unknown type {word}; pcard types prints how a type is written"
@@ -79,6 +86,18 @@ fn kind_of(call: &Call<'_>) -> Option<TypeWord>
     } else {
         Some(TypeWord::Expression)
     }
+}
+
+fn is_string(word: &str) -> bool
+    ensures { result ≡ is_string word.now }
+{
+    word == "String"
+}
+
+fn has_colon(word: &str) -> bool
+    ensures { result ≡ has_colon word.now }
+{
+    word.as_bytes().contains(&b':')
 }
 
 fn takes_name(call: &Call<'_>) -> bool

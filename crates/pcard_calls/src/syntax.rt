@@ -12,9 +12,9 @@ u8 u16 u32 u64 u128 usize   a number without a sign: 42 or 0x2a
 i8 i16 i32 i64 i128 isize   a number with a sign: -42 or -0x2a
 f32 f64                     a floating-point number: 1.5, 1e30, -0.0, inf or nan
 LE<T>, BE<T>                the number T at its full width, low or high byte first, (LE<u16>): 42
-bool                        a truth value: true
+bool                        a bool: true
 char                        a character: 'x'
-str, String                 a text: \"a \\\"b\\\"\\n\"
+str, String                 a string: \"a \\\"b\\\"\\n\"
 bytes                       a byte string: 0x00ff
 T?, Option<T>               an option, (u8?): None or Some(7)
 [T], Vec<T>                 a list, [u16]: [1, 300]

@@ -59,7 +59,7 @@ const CALLS: [Call; 12] = [
     (
         &["@types.rs:Reading"],
         "usage: pcard enc TYPE VALUE, dec TYPE HEX, frames\n",
-        "pcard: unknown command @types.rs:Reading: there are enc, dec, decs, frames, explain, size, compat, crc, types, impl, c, python and demo\n",
+        "pcard: unknown command @types.rs:Reading: there are enc, dec, decs, frames, explain, size, key, compat, crc, types, impl, c, python and demo\n",
         2,
     ),
     (
