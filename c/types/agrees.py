@@ -26,11 +26,15 @@ from postcard_types.tokens import Refused  # noqa: E402
 
 # Types of the files of c/types that `@FILE:NAME` refuses, for what MORE has, and those of which it doesn't read an attribute.
 REFUSED_THERE = {
+    "capacity.rs": set("Packet Name Event".split()),
     "forms.rs": set("""NonZeros Counted Capacities Lists Arrays Owners Results Shape Holder Request HolderByte RequestShort Generics Unused Same
         Aliases""".split()),
     "sensor.rs": set("Info Log Arg Settings Answer Fault Message".split()),
 }
 OTHER_THERE = {"forms.rs": {"Widths"}, "sensor.rs": {"Chunk"}}
+
+# The refusal of pcard for which this package has no row: it takes capacities, and refuses other parameters elsewhere.
+PARAMETER = "a parameter such as a capacity isn't supported"
 
 # The longest expression or HEX that is given to the program as a word.
 MOST_WRITTEN = 100_000
@@ -131,6 +135,11 @@ def type_of(text, name):
     return model, Named(name) if alias is None else alias
 
 
+def refusals():
+    """Returns the rows that both refuse at one place."""
+    return [row for row in rows("REFUSED") if not row[2].endswith(PARAMETER)]
+
+
 def check_rows():
     """Returns the differences from the rows of declarations.rt: in the type, or in the place of an error."""
     wrong = []
@@ -139,7 +148,7 @@ def check_rows():
         printed = shown(model, found) if model else found
         if printed != wanted:
             wrong.append(f"{text!r}: {printed}, and not {wanted}")
-    for text, name, wanted in rows("REFUSED"):
+    for text, name, wanted in refusals():
         model, found = type_of(text, name)
         if model or found.split(":")[0] != wanted.split(":")[0]:
             wrong.append(f"{text!r}: {'accepted' if model else found}, and not {wanted}")
@@ -225,7 +234,7 @@ def main():
     for line in wrong:
         print(line)
     more = f", and {taken} types of files are compared with the program's" if sys.argv[1:] else ""
-    print(f"declarations: {len(rows('TYPES'))} types and {len(rows('REFUSED'))} refusals are those of pcard{more}")
+    print(f"declarations: {len(rows('TYPES'))} types and {len(refusals())} refusals are those of pcard{more}")
     return 1 if wrong else 0
 
 
