@@ -50,6 +50,7 @@ const CALLS: [Call; 12] = [
         "",
         0,
     ),
+    // TYPE alone names a file. A VALUE that begins with `@` is itself.
     (
         &["enc", "str", "@full.rs:Reading"],
         "104066756c6c2e72733a52656164696e67\n",

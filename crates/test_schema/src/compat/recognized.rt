@@ -1,6 +1,6 @@
 //! Which pairs of flattened types are recognized as two versions of a type.
 
-use crate::helpers::{flat, same};
+use crate::compat::helpers::{flat, same};
 use postcard_compat::{both, serves, serves_front};
 use std::process::Abort;
 

@@ -1,6 +1,6 @@
 //! The rows of the tests of `compare`, and their assertion.
 
-use crate::helpers::same;
+use crate::compat::helpers::same;
 use postcard_compat::{Verdict, compare};
 use postcard_schema::Schema;
 use postcard_schema_text::parse;

@@ -1,6 +1,6 @@
 //! Flattened types, with the paths of their parts.
 
-use crate::helpers::{flat, same};
+use crate::compat::helpers::{flat, same};
 
 /// A type, and the flattened one as `Debug` prints it.
 const TYPES: [(&str, &str); 8] = [

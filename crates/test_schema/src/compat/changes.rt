@@ -1,7 +1,7 @@
 //! One change of a type at a time, in both directions: the new type reads old messages, and the old
 //! type reads new ones.
 
-use crate::rows::{Row, check};
+use crate::compat::rows::{Row, check};
 use postcard_compat::Verdict::{Differs, Front, Misread, Refuses, Same};
 
 const CHANGES: [Row<'static>; 32] = [

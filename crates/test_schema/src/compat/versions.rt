@@ -1,6 +1,6 @@
 //! Versions of a struct and of an enum, each with the next.
 
-use crate::rows::{Row, check};
+use crate::compat::rows::{Row, check};
 use postcard_compat::Verdict::{Differs, Front, Misread, Refuses, Same};
 
 /// The messages of a sensor. A number is widened, a field added, one renamed, and two put into a
