@@ -1,6 +1,7 @@
 -- The texts as which the failures of `pcard impl` are printed, and their exit status.
 use Rattle.std.specs.Prelude.{◌≡◌, ◌⊎◌, ℕ, Option, List, [], ◌∷◌, ◌++◌, codes}
 use Rattle.std.specs.Io.KnownBytes.{Appends}
+use Rattle.postcard_source.specs.declared.error.FileProblem.{FileProblem}
 use Rattle.postcard_source.specs.declared.error.FileProblem.TheVariants.{Expression}
 use Rattle.postcard_schema_text.specs.declared.error.Problem.TheVariants.{OutOfMemory}
 use Rattle.pcard_impl.specs.Printed.{impl_error_text}
@@ -16,8 +17,12 @@ impl_failure_text NoText = codes "the file is not UTF-8"
 impl_failure_text (Wrong error) = impl_error_text error
 
 -- The exit status of a failure: 1 if memory is lacking, and else 2.
+abbrev pub file_problem_status : FileProblem → ℕ
+file_problem_status (Expression OutOfMemory) = 1
+file_problem_status problem = 2
+
 abbrev pub impl_problem_status : ImplProblem → ℕ
-impl_problem_status (problems.File (Expression OutOfMemory)) = 1
+impl_problem_status (problems.File problem) = file_problem_status problem
 impl_problem_status problem = 2
 
 abbrev pub impl_failure_status : ImplFailure → ℕ

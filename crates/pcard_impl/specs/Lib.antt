@@ -8,7 +8,7 @@ pub mod Places
 pub use Rattle.std.specs.Io.KnownBytes.{Appends}
 pub use Rattle.postcard_schema_text.specs.declared.error.Problem.TheVariants.{OutOfMemory}
 pub use Rattle.postcard_source.specs.declared.error.FileProblem.TheVariants.{Expression}
-pub use Rattle.pcard_impl.specs.Failures.{Tells, TellsPath, impl_failure_status, impl_failure_text}
+pub use Rattle.pcard_impl.specs.Failures.{Tells, TellsPath, file_problem_status, impl_failure_status, impl_failure_text, impl_problem_status}
 pub use Rattle.pcard_impl.specs.Home.{IsHome}
 pub use Rattle.pcard_impl.specs.Marks.{IsAlone, IsMarked, IsOpen, IsOutside, marked}
 pub use Rattle.pcard_impl.specs.Places.{IsIn}

@@ -1,8 +1,8 @@
 //! The call `pcard impl FILE`: what it prints, and its exit status.
 
 ghost use Rattle.std.specs.Prelude.{◌≡◌, ◌≢◌, ◌≤◌, ℕ, List, Some, IfOk, string_bytes};
-ghost use Rattle.pcard_impl.specs.{Appends, IsMarked, Tells, TellsPath, impl_failure_status};
-ghost use Rattle.pcard_impl.specs.{impl_failure_text};
+ghost use Rattle.pcard_impl.specs.{Appends, IsMarked, Tells, TellsPath, file_problem_status};
+ghost use Rattle.pcard_impl.specs.{impl_failure_status, impl_failure_text, impl_problem_status};
 
 use crate::marks::{BEGIN, END};
 use crate::{Home, ImplError, ImplProblem, impl_file};
@@ -40,13 +40,29 @@ impl ImplFailure<'_> {
     fn status(&self) -> u8
         ensures { result ≡ impl_failure_status self.now }
     {
-        let ImplFailure::Wrong(error) = self else {
-            return 2;
-        };
-        match error.problem {
-            ImplProblem::File(FileProblem::Expression(Problem::OutOfMemory)) => 1,
+        match self {
+            ImplFailure::Wrong(error) => status_of(error.problem),
             _ => 2,
         }
+    }
+}
+
+/// Returns the exit status of a problem: 1 if memory is lacking, and else 2.
+fn status_of(problem: ImplProblem) -> u8
+    ensures { result ≡ impl_problem_status problem }
+{
+    match problem {
+        ImplProblem::File(problem) => file_status(problem),
+        _ => 2,
+    }
+}
+
+fn file_status(problem: FileProblem) -> u8
+    ensures { result ≡ file_problem_status problem }
+{
+    match problem {
+        FileProblem::Expression(Problem::OutOfMemory) => 1,
+        _ => 2,
     }
 }
 

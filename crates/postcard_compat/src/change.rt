@@ -146,23 +146,40 @@ impl fmt::Display for Variant {
 impl fmt::Display for Change {
     fn fmt<W: fmt::Write>(&self, f: &mut fmt::Formatter<W>) -> fmt::Result {
         match self {
-            Change::Widened { old, new } => write!(f, "{old} is now {new}"),
-            Change::Renamed { name } => write!(f, "has the name {name}"),
-            Change::VariantRenamed { variant, name } => write!(f, "{variant} has the name {name}"),
-            Change::VariantAdded { variant } => write!(f, "{variant} is new"),
-            Change::Narrowed { old, new, greatest } => {
-                let (old, new) = (old.name(), new.name());
-                write!(f, "{old} is read as {new}, which ends at {greatest}")
-            }
-            Change::Retyped { old, new } => write!(f, "{old} is read as {new}"),
-            Change::Resized { old, new } => write!(f, "{old} elements are read as {new}"),
-            Change::Added { kind } => write!(f, "{kind} is new"),
-            Change::Removed { kind } => write!(f, "{kind} is gone"),
-            Change::VariantRemoved { variant } => write!(f, "{variant} is unknown"),
-            Change::Moved { path } => write!(f, "is read as {path}"),
-            Change::VariantMoved { variant, name } => write!(f, "{variant} is read as {name}"),
+            Change::Widened { old, new } => join(f, old, " is now ", new),
+            Change::Renamed { name } => join(f, &"has the name", " ", name),
+            Change::VariantRenamed { variant, name } => join(f, variant, " has the name ", name),
+            Change::VariantAdded { variant } => join(f, variant, " is ", &"new"),
+            Change::Narrowed { old, new, greatest } => write_narrowed(f, *old, *new, *greatest),
+            Change::Retyped { old, new } => join(f, old, " is read as ", new),
+            Change::Resized { old, new } => join(f, old, " elements are read as ", new),
+            Change::Added { kind } => join(f, kind, " is ", &"new"),
+            Change::Removed { kind } => join(f, kind, " is ", &"gone"),
+            Change::VariantRemoved { variant } => join(f, variant, " is ", &"unknown"),
+            Change::Moved { path } => join(f, &"is read", " as ", path),
+            Change::VariantMoved { variant, name } => join(f, variant, " is read as ", name),
         }
     }
+}
+
+/// Prints two things, with words between them.
+fn join<A: fmt::Display, B: fmt::Display, W: fmt::Write>(
+    f: &mut fmt::Formatter<W>,
+    first: &A,
+    words: &str,
+    second: &B,
+) -> fmt::Result {
+    write!(f, "{first}{words}{second}")
+}
+
+fn write_narrowed<W: fmt::Write>(
+    f: &mut fmt::Formatter<W>,
+    old: Integer,
+    new: Integer,
+    greatest: u128,
+) -> fmt::Result {
+    let (old, new) = (old.name(), new.name());
+    write!(f, "{old} is read as {new}, which ends at {greatest}")
 }
 
 /// A step from a value of a flattened type to one of its parts.

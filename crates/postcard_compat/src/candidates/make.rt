@@ -344,20 +344,32 @@ fn make_leaf(maker: &mut Maker, leaf: Leaf, is_telling: bool) -> Result<Value, A
         }
         Leaf::Float(float) => {
             let index = chosen(maker, FLOATS.len(), is_telling);
-            Ok(Value::Float(float, FLOATS[index % FLOATS.len()]))
+            Ok(Value::Float(float, telling_float(index)))
         }
         Leaf::Char => {
             let index = chosen(maker, CHARS.len(), is_telling);
-            Ok(Value::Char(CHARS[index % CHARS.len()]))
+            Ok(Value::Char(telling_char(index)))
         }
         Leaf::Str => {
             let index = chosen(maker, TEXTS.len(), is_telling);
-            let text = String::from_str(maker.alloc, TEXTS[index % TEXTS.len()])?;
+            let text = String::from_str(maker.alloc, telling_text(index))?;
             Ok(Value::Str(text))
         }
         // A flattened type has lists of `u8` in place of byte strings.
         Leaf::Bytes => Ok(Value::Bytes(Vec::new(maker.alloc))),
     }
+}
+
+fn telling_float(index: usize) -> u64 {
+    FLOATS[index % FLOATS.len()]
+}
+
+fn telling_char(index: usize) -> char {
+    CHARS[index % CHARS.len()]
+}
+
+fn telling_text(index: usize) -> &'static str {
+    TEXTS[index % TEXTS.len()]
 }
 
 /// Returns the number of a telling value, or the index with which one of `count` values is filled.

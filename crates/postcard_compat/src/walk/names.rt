@@ -24,23 +24,31 @@ pub(crate) fn compare_names<'a>(
         if name == new_name || is_numbered(name) || is_numbered(new_name) {
             continue;
         }
-        let change = if has_name(others, name) || has_name(fields, new_name) {
-            let path = path_of(alloc, way, new_name)?;
-            Change::Moved { path }
-        } else if last_name(name) != last_name(new_name) {
-            let name = String::from_str(alloc, last_name(new_name))?;
-            Change::Renamed { name }
-        } else {
-            continue;
-        };
-        way.push(Stop {
-            name,
-            turn: Turn::Part(index),
-        })?;
-        report(alloc, way, change, found)?;
-        way.pop();
+        let is_moved = has_name(others, name) || has_name(fields, new_name);
+        if is_moved || last_name(name) != last_name(new_name) {
+            let change = name_change(alloc, way, new_name, is_moved)?;
+            let turn = Turn::Part(index);
+            way.push(Stop { name, turn })?;
+            report(alloc, way, change, found)?;
+            way.pop();
+        }
     }
     Ok(())
+}
+
+/// Returns the change of a field whose name at its place is `new` now.
+fn name_change(
+    alloc: Global,
+    way: &Vec<Stop<'_>>,
+    new: &str,
+    is_moved: bool,
+) -> Result<Change, AllocError> {
+    if is_moved {
+        let path = path_of(alloc, way, new)?;
+        return Ok(Change::Moved { path });
+    }
+    let name = String::from_str(alloc, last_name(new))?;
+    Ok(Change::Renamed { name })
 }
 
 /// Returns `true` for a path of numbers alone, as of the parts of tuples and arrays.
@@ -89,16 +97,26 @@ pub(crate) fn compare_variant_names<'a>(
         if old == new {
             continue;
         }
-        let name = String::from_str(alloc, new)?;
         let variant = variant_of(alloc, old, index)?;
-        let change = if has_name(others, old) || has_name(variants, new) {
-            Change::VariantMoved { variant, name }
-        } else {
-            Change::VariantRenamed { variant, name }
-        };
+        let is_moved = has_name(others, old) || has_name(variants, new);
+        let change = variant_change(alloc, variant, new, is_moved)?;
         report_variant(alloc, way, index, change, found)?;
     }
     Ok(())
+}
+
+/// Returns the change of a variant whose index has the name `new` now.
+fn variant_change(
+    alloc: Global,
+    variant: Variant,
+    new: &str,
+    is_moved: bool,
+) -> Result<Change, AllocError> {
+    let name = String::from_str(alloc, new)?;
+    if is_moved {
+        return Ok(Change::VariantMoved { variant, name });
+    }
+    Ok(Change::VariantRenamed { variant, name })
 }
 
 /// Reports the variants of an enum from an index on.
