@@ -35,6 +35,7 @@ bytes_none Is IsWrong none [] a n h k = h
 bytes_none Is IsWrong none (x ∷ xs) a n (inl wrong) (f, r, is, more, joins) = none x f n wrong is
 bytes_none Is IsWrong none (x ∷ xs) a n (inr (g, m, other, place, wrong)) (f, r, is, more, joins) = bytes_none Is IsWrong none xs r m wrong more
 
+-- A word stands for one list of bytes.
 word_one : (x a b : List ℕ) → IsWord x a → IsWord x b → a ≡ b
 word_one x a b h k = cc
 
@@ -43,12 +44,15 @@ failed_not : {A E : Type 0} (r : Result A E) (a : A) → IsErr r → r ≡ Ok a 
 failed_not (Ok b) a h is = cc h
 failed_not (Err e) a h is = cc is
 
+-- A wrong word stands for no bytes.
 word_none : (x a : List ℕ) (n : ℕ) → IsWrongWord x n → IsWord x a → ⊥
 word_none x a n (bad, place) is = failed_not (decode_of (digits_of x)) a bad is
 
+-- A line stands for one list of bytes.
 line_one : (dump : Bool) (x a b : List ℕ) → IsLine dump x a → IsLine dump x b → a ≡ b
 line_one dump x a b h k = bytes_one IsWord word_one (words_of (column_of dump x)) a b h k
 
+-- A wrong line stands for no bytes.
 line_none : (dump : Bool) (x a : List ℕ) (n : ℕ) → IsWrongLine dump x n → IsLine dump x a → ⊥
 line_none dump x a n (m, place, wrong) is = bytes_none IsWord IsWrongWord word_none (words_of (column_of dump x)) a m wrong is
 

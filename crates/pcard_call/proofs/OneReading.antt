@@ -14,9 +14,11 @@ use Rattle.pcard_call.specs.Options.{Given, WithValue, option_name, has_value, t
 use Rattle.pcard_call.specs.Calls.{Words, begins_option, IsNewOption, OptionsThen, at_end, at_operand, switch, valued, fits, IsCall}
 use Rattle.pcard_call.specs.Calls.{IsBadOption, IsBadValue, IsMisused, bad_option, no_value, bad_value, after_switch, after_value, IsMisuse}
 
+-- Whether two words are equal.
 abbrev is : List ℕ → List ℕ → Bool
 is = pointwise nat_eq
 
+-- The verb that a word names, if there is one.
 abbrev verb_of : List ℕ → Option Verb
 verb_of word =
     if is word (codes "enc") then Some verbs.Encode else if is word (codes "dec") then Some verbs.Decode else
@@ -24,6 +26,7 @@ verb_of word =
     if is word (codes "explain") then Some verbs.Explain else if is word (codes "size") then Some verbs.Size else
     if is word (codes "key") then Some verbs.Key else if is word (codes "crc") then Some verbs.Checksum else Some verbs.Types
 
+-- The name of a verb names it.
 verb_is : (v : Verb) → verb_of (verb_name v) ≡ Some v
 verb_is verbs.Encode = refl
 verb_is verbs.Decode = refl
@@ -39,12 +42,14 @@ verb_is verbs.Types = refl
 pub same_verb : (v u : Verb) → verb_name v ≡ verb_name u → v ≡ u
 same_verb v u e = same_Some v u (sym (verb_is v) ∙ ap verb_of e ∙ verb_is u)
 
+-- The option that a word names, if there is one.
 abbrev option_from : List ℕ → Option OptionName
 option_from word =
     if is word (codes "--crc") then Some Checksum else if is word (codes "--longest") then Some Longest else
     if is word (codes "--json") then Some Json else if is word (codes "--frame") then Some Frame else
     if is word (codes "--all") then Some All else if is word (codes "--hex") then Some Hex else if is word (codes "--raw") then Some Raw else Some Names
 
+-- The name of an option names it.
 option_is : (o : OptionName) → option_from (option_name o) ≡ Some o
 option_is Checksum = refl
 option_is Longest = refl
@@ -81,9 +86,11 @@ same_value Hex value g h k a b = absurd a
 same_value Raw value g h k a b = absurd a
 same_value Names value g h k a b = absurd a
 
+-- Equal lists of words have equal first words,
 same_first : {x y : List ℕ} {xs ys : Words} → x ∷ xs ≡ y ∷ ys → x ≡ y
 same_first e = cc
 
+-- and equal remaining words.
 same_rest : {x y : List ℕ} {xs ys : Words} → x ∷ xs ≡ y ∷ ys → xs ≡ ys
 same_rest e = cc
 

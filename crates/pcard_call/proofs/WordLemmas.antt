@@ -8,14 +8,17 @@ pub whole : (words rest : List (String Global)) (w : String Global) (word : List
     → map string_bytes words ≡ word ∷ map string_bytes rest
 whole words rest w word first is = ap (map string_bytes) first.0 ∙ ap (λ z. z ∷ map string_bytes rest) (sym is)
 
+-- A list of no words is empty.
 pub none : (words : List (String Global)) → length words ≡ 0 → words ≡ []
 none [] n = refl
 none (w ∷ words) n = absurd (omega (arith, n))
 
+-- What holds of a success follows from a stronger fact.
 pub if_ok : {A E : Type 0} {P Q : A → Type 0} (r : Result A E) → ((x : A) → P x → Q x) → IfOk r P → IfOk r Q
 if_ok (Ok x) f h = f x h
 if_ok (Err e) f h = tt
 
+-- What holds of a failure follows from a stronger fact.
 pub if_err : {A E : Type 0} {P Q : E → Type 0} (r : Result A E) → ((e : E) → P e → Q e) → IfErr r P → IfErr r Q
 if_err (Ok x) f h = tt
 if_err (Err e) f h = f e h

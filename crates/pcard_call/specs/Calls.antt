@@ -10,6 +10,7 @@ use Rattle.pcard_call.specs.declared.misuse.Misuse.TheVariants.{NoVerb, UnknownV
 use Rattle.pcard_call.specs.Words.{verb_name}
 use Rattle.pcard_call.specs.Options.{Given, WithValue, option_name, has_value, takes, nothing_given, is_given, is_empty, with_switch}
 
+-- The words of a call, each as its bytes.
 abbrev pub Words : Type 0
 Words = List (List ℕ)
 

@@ -7,6 +7,7 @@ use Rattle.pcard_call.specs.declared.options.OptionName.{OptionName}
 use Rattle.pcard_call.specs.declared.options.OptionName.TheVariants.{Checksum, Longest, Json, Frame, All, Hex, Raw, Names}
 use Rattle.pcard_call.specs.declared.options.Options.{Options}
 
+-- The word that names an option.
 abbrev pub option_name : OptionName → List ℕ
 option_name Checksum = codes "--crc"
 option_name Longest = codes "--longest"
@@ -74,6 +75,7 @@ pub record Given : Type 0 where
   pub raw : Bool
   pub names : Bool
 
+-- Which options a call has, with their values.
 abbrev pub given_of : Options → Given
 given_of o = record {
   checksum = option_map (λ name. name.now) o.checksum;
@@ -86,6 +88,7 @@ given_of o = record {
   names = o.names;
 }
 
+-- No option is given.
 abbrev pub nothing_given : Given
 nothing_given = record { checksum = None; longest = None; json = false; frame = false; all = false; hex = false; raw = false; names = false }
 

@@ -5,6 +5,7 @@ use Rattle.pcard_call.specs.declared.misuse.Misuse.TheVariants.{NoVerb, UnknownV
 use Rattle.pcard_call.specs.Words.{verb_name}
 use Rattle.pcard_call.specs.Options.{option_name, usage_of, value_of}
 
+-- The line that says why words are no call.
 abbrev pub misuse_text : Misuse → List ℕ
 misuse_text NoVerb = codes "a command is missing; pcard --help prints the calls"
 misuse_text (UnknownVerb word) = codes "unknown command " ++ (word.now ++ codes ": there are enc, dec, decs, frames, explain, size, key, compat, crc, types, impl, c, python and demo")

@@ -3,6 +3,7 @@ use Rattle.std.specs.Prelude.{ℕ, List, codes}
 use Rattle.pcard_call.specs.declared.verb.Verb.{Verb}
 use Rattle.pcard_call.specs.declared.verb.Verb.TheVariants as verbs
 
+-- The word that names a verb.
 abbrev pub verb_name : Verb → List ℕ
 verb_name verbs.Encode = codes "enc"
 verb_name verbs.Decode = codes "dec"

@@ -21,6 +21,7 @@ at_most_one : (b : Bool) (none one : List ℕ) → length none ≤ 1 → length 
 at_most_one true none one h k = h
 at_most_one false none one h k = k
 
+-- A group of bytes without its code byte is no longer than with it.
 coded_fits : (g : List ℕ) → length (followed g) ≤ length (coded g)
 coded_fits g = omega (arith, at_most_one (eqb (length g) 254) [] (0 ∷ []) (omega arith) (omega arith), length-append g (gap g))
 
@@ -33,6 +34,7 @@ made_longer : (d m : List ℕ) → IsMade d m → length d + 2 ≤ length m
 made_longer d m is =
     omega (arith, ap length is.frame_is, ap length is.data_is, all_fit is.before, length-append ((flat_map coded is.before) ++ (coded is.last)) (0 ∷ []), length-append (flat_map coded is.before) (coded is.last), length-append (flat_map followed is.before) is.last)
 
+-- A frame has at least two bytes more than its data: a code byte and the zero.
 least_frame : (d : List ℕ) → length d + 2 ≤ length (made d)
 least_frame d = made_longer d (made d) (made_is_made d)
 
@@ -49,6 +51,7 @@ frames_within least (Some n) has h k = λ t r.
     let more : length d / 254 ≤ n / 254 = omega arith in
     (omega (arith, low, least_frame d), omega (arith, high, more, made_length d))
 
+-- What holds after a success follows from a stronger fact.
 pub on_ok_as : {E : Type 0} (r : Result (Unit {0}) E) (P Q : Type 0) → (P → Q) → OnOk r P → OnOk r Q
 on_ok_as (Ok done) P Q f h = f h
 on_ok_as (Err e) P Q f h = tt

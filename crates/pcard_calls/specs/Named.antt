@@ -69,6 +69,7 @@ whole_word = record {
 abbrev pub numeral : ℕ → List ℕ → Result ℕ Failure → Type 0
 numeral w = ParsesUnsigned w 10
 
+-- The text of an unsigned integer.
 abbrev pub numeral_text : ℕ → Option (List ℕ)
 numeral_text n = Some (decimal n)
 
@@ -76,6 +77,7 @@ numeral_text n = Some (decimal n)
 abbrev pub signed_numeral : Width → List ℕ → Result ℤ Failure → Type 0
 signed_numeral w = ParsesSigned w 10
 
+-- The text of a signed integer.
 abbrev pub signed_text : ℤ → Option (List ℕ)
 signed_text z = Some (signed_decimal z)
 
@@ -83,6 +85,7 @@ signed_text z = Some (signed_decimal z)
 abbrev pub truth : List ℕ → Result TruthValue Failure → Type 0
 truth = ParsesBool
 
+-- The text of a `bool`.
 abbrev pub truth_text : TruthValue → Option (List ℕ)
 truth_text b = Some (if b then codes "true" else codes "false")
 
@@ -90,6 +93,7 @@ truth_text b = Some (if b then codes "true" else codes "false")
 abbrev pub one_character : List ℕ → Result ℕ Failure → Type 0
 one_character = ParsesChar
 
+-- The text of a character.
 abbrev pub character_text : ℕ → Option (List ℕ)
 character_text c = Some (encode_utf8 c)
 

@@ -18,6 +18,7 @@ abbrev pub first_word : List (List ℕ) → List ℕ
 first_word [] = []
 first_word (word ∷ words) = word
 
+-- The second of some words, or the empty word.
 abbrev pub second_word : List (List ℕ) → List ℕ
 second_word [] = []
 second_word (word ∷ words) = first_word words
@@ -62,6 +63,7 @@ hint_text word =
     if is_string word then codes "; a string is str" else
     if has_colon word then codes "; a type in a file is @" ++ word else codes "; pcard types prints how a type is written"
 
+-- The line that says why words are no call.
 abbrev pub no_call_text : NoCall → List ℕ
 no_call_text (Misuse misuse) = misuse_text misuse
 no_call_text (UnknownType word) = codes "unknown type " ++ (word.now ++ hint_text word.now)

@@ -7,6 +7,7 @@ use Rattle.pcard_compat.specs.declared.request.Options.{Options}
 use Rattle.pcard_compat.specs.declared.request.Misuse.{Misuse}
 use Rattle.pcard_compat.specs.declared.request.Misuse.TheVariants.{UnknownOption, Twice, Operands}
 
+-- The words of a call, each as its bytes.
 abbrev pub Words : Type 0
 Words = List (List ℕ)
 

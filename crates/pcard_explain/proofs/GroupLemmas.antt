@@ -33,6 +33,7 @@ group_shown at group rest zero is =
 
 -- ---- zeros
 
+-- `false` and a condition are never both true.
 never : (b : Bool) → (b && false) ≡ false
 never true = refl
 never false = refl

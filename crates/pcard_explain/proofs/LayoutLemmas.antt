@@ -18,10 +18,12 @@ spaced_more xs i low =
 
 -- ---- counts
 
+-- The bytes of lines, and of more lines after them.
 bytes_join : (xs ys : List Line) → bytes_of (xs ++ ys) ≡ bytes_of xs ++ bytes_of ys
 bytes_join [] ys = refl
 bytes_join (x ∷ xs) ys = ap (λ p. x.bytes.now ++ p) (bytes_join xs ys) ∙ sym (append_assoc x.bytes.now (bytes_of xs) (bytes_of ys))
 
+-- One line more adds the number of its bytes.
 pub bytes_more : (lines : List Line) (line : Line) → length (bytes_of (lines ++ line ∷ [])) ≡ length (bytes_of lines) + length line.bytes.now
 bytes_more lines line = ap length (bytes_join lines (line ∷ [])) ∙ length-append (bytes_of lines) (line.bytes.now ++ []) ∙ ap (λ p. length (bytes_of lines) + length p) (append-nil line.bytes.now)
 
@@ -31,6 +33,7 @@ pub counted_more : (lines : List Line) (i : ℕ) (line : Line) → i < length li
 counted_more lines i line low is =
     ap (λ ls. length (bytes_of ls)) (take_more lines i line low ∙ ap (λ l. take i lines ++ l ∷ []) (sym is)) ∙ bytes_more (take i lines) line
 
+-- The longest of some lines and one line more.
 longest_join : (lines : List Line) (line : Line) → longest_of (lines ++ line ∷ []) ≡ max (longest_of lines) (length line.bytes.now)
 longest_join [] line = omega arith
 longest_join (l ∷ lines) line = omega (arith, longest_join lines line)

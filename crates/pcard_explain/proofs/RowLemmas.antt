@@ -22,6 +22,7 @@ abbrev pub seen_after : List Line → List Line → List Line
 seen_after seen [] = seen
 seen_after seen (line ∷ lines) = seen_after (line ∷ seen) lines
 
+-- One line more is the last that was seen.
 pub seen_more : (seen lines : List Line) (line : Line) → seen_after seen (lines ++ line ∷ []) ≡ line ∷ seen_after seen lines
 seen_more seen [] line = refl
 seen_more seen (x ∷ xs) line = seen_more (x ∷ seen) xs line
@@ -83,6 +84,7 @@ rest_at layout (Some t) n bytes old new h =
 
 -- ---- frames
 
+-- The bytes of a frame from an index on begin with the byte at it.
 next_byte : (frame : List ℕ) (at : ℕ) → at < length frame → drop at frame ≡ get_or frame at 0 ∷ drop (at + 1) frame
 next_byte frame at low = rw (add-one at) (drop-cons frame at 0 low)
 

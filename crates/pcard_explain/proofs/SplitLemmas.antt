@@ -19,14 +19,17 @@ abbrev AreParts : List Line → Type 0
 AreParts [] = Unit {0}
 AreParts (line ∷ lines) = (line.kind ≢ AfterValue) × AreParts lines
 
+-- Lines of parts, and more lines of parts after them, are lines of parts.
 parts_join : (xs ys : List Line) → AreParts xs → AreParts ys → AreParts (xs ++ ys)
 parts_join [] ys h k = k
 parts_join (x ∷ xs) ys h k = (h.0, parts_join xs ys h.1 k)
 
+-- The last of the lines of parts is not that of the bytes after the value.
 last_part : (xs : List Line) (x : Line) → AreParts (xs ++ x ∷ []) → x.kind ≢ AfterValue
 last_part [] x h = h.0
 last_part (y ∷ xs) x h = last_part xs x h.1
 
+-- The one line that opens a value with parts is a line of a part.
 opening : (line : Line) (lines : List Line) → line.kind ≡ Parts → lines ≡ line ∷ [] → AreParts lines
 opening line lines kind is = rw is (λ e. cc (kind, e), tt)
 
@@ -71,6 +74,7 @@ mutual
 
 -- ---- the last line
 
+-- Lists that are equal with their last elements are equal without them.
 same_front : (xs ys : List Line) (x y : Line) → xs ++ x ∷ [] ≡ ys ++ y ∷ [] → (xs ≡ ys) × (x ≡ y)
 same_front [] [] x y e = (refl, cc e)
 same_front [] (b ∷ ys) x y e = absurd (omega (arith, ap length e, length-append ys (y ∷ [])))
@@ -81,6 +85,7 @@ same_front (a ∷ xs) (b ∷ ys) x y e =
     let k = same_front xs ys x y others in
     (cc (front, k.0), k.1)
 
+-- The bytes of one line.
 bytes_of_one : (line : Line) (lines : List Line) → lines ≡ line ∷ [] → bytes_of lines ≡ line.bytes.now
 bytes_of_one line lines is = ap bytes_of is ∙ append-nil line.bytes.now
 

@@ -37,6 +37,7 @@ path_after before line = path_around before line.depth ++ label_steps line.label
 
 -- ---- the state of the code
 
+-- A step as a path of one step. Without a step, the empty path.
 abbrev pub steps_of : Option Step → List PlainStep
 steps_of None = []
 steps_of (Some s) = plain_step s ∷ []

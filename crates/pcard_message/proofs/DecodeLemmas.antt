@@ -47,10 +47,12 @@ value_before Json schema at v rest old mid new h none = record { text = h.text; 
 
 -- ---- how much is taken
 
+-- Of two numbers from 1 on, either is from 1 on.
 pick : (b : Bool) (m n : ℕ) → 1 ≤ m → 1 ≤ n → 1 ≤ (if b then m else n)
 pick true m n first second = first
 pick false m n first second = second
 
+-- A checksum of at least one bit has at least one byte.
 bytes_some : (bits : ℕ) → 1 ≤ bytes_for bits
 bytes_some bits =
     pick (nat_le bits 8) 1 (if nat_le bits 16 then 2 else if nat_le bits 32 then 4 else if nat_le bits 64 then 8 else 16) (omega arith)

@@ -71,6 +71,7 @@ data_cut s bytes rest v (behind, is, follows) =
 pub data_within : (s : Format) (bytes rest : List ℕ) (v : Value) → ReadsData s bytes v rest → length rest ≤ length bytes
 data_within s bytes rest v is = let cut = data_cut s bytes rest v is in let n = ap length cut.1 ∙ length-append cut.0 rest in omega arith
 
+-- Dropping the first of two joined lists leaves the second.
 drop_front : (xs ys : List ℕ) → drop (length xs) (xs ++ ys) ≡ ys
 drop_front [] ys = refl
 drop_front (x ∷ xs) ys = drop_front xs ys
@@ -94,6 +95,7 @@ before_zero_all [] z = refl
 before_zero_all (b ∷ f) z = let e : eqb b 0 ≡ false = ne_eqb b 0 (λ e. omega (arith, z.0)) in
     rw e (ap (λ (x : List ℕ). b ∷ x) (before_zero_all f z.1))
 
+-- Taking as many elements as the first of two joined lists has gives the first.
 take_front_of : (xs ys : List ℕ) → take (length xs) (xs ++ ys) ≡ xs
 take_front_of [] ys = refl
 take_front_of (x ∷ xs) ys = ap (λ (t : List ℕ). x ∷ t) (take_front_of xs ys)

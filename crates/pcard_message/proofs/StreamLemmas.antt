@@ -15,12 +15,14 @@ use Rattle.pcard_message.specs.Receiving.{IsAfter, Continues, PrintsAnswerTo, Re
 use Rattle.pcard_message.specs.Stream.{Answered, AreAnswered, IsAnswerTo, PrintsLine, PrintsLinesOf, bytes_of, overfull, PrintsLines, PrintsStream}
 use Rattle.pcard_message.proofs.DecodeLemmas.{appends_no_more, value_after, value_before}
 
+-- Bytes without a zero, and more without one.
 no_zero_both : (xs ys : List ℕ) → NoZero xs → NoZero ys → NoZero (xs ++ ys)
 no_zero_both [] ys a b = b
 no_zero_both (x ∷ xs) ys a b = (a.0, no_zero_both xs ys a.1 b)
 
 -- ---- one more frame
 
+-- One frame more adds its bytes and its zero.
 bytes_more : (xs : List Answered) (a : Answered) → bytes_of (xs ++ a ∷ []) ≡ bytes_of xs ++ (a.frame ++ 0 ∷ [])
 bytes_more [] a = append-nil (a.frame ++ 0 ∷ [])
 bytes_more (x ∷ xs) a = ap (λ (t : List ℕ). (x.frame ++ 0 ∷ []) ++ t) (bytes_more xs a) ∙ sym (append_assoc (x.frame ++ 0 ∷ []) (bytes_of xs) (a.frame ++ 0 ∷ []))
@@ -244,6 +246,7 @@ continues_both s a b c x y old mid new p q longest given first h =
     let P : List ℕ → Type 0 = λ t. IsAfter s longest t c first new in
     subst P (append_assoc given x y) (q longest (given ++ x) first (p longest given first h))
 
+-- A list of length 0 is empty.
 nothing : (w : List ℕ) → length w ≡ 0 → w ≡ []
 nothing [] e = refl
 nothing (b ∷ w) e = absurd (omega arith)

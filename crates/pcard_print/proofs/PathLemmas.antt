@@ -9,10 +9,12 @@ use Rattle.postcard_schema.specs.declared.path.Step.{Step}
 pub one_step : (s : Step) → path_text (s ∷ []) ≡ step_text (plain_step s)
 one_step s = append-nil (step_text (plain_step s))
 
+-- If both texts have at least `n` bytes, the chosen one has.
 one_of : (b : Bool) (xs ys : List ℕ) (n : ℕ) → n ≤ length xs → n ≤ length ys → n ≤ length (if b then xs else ys)
 one_of true xs ys n first second = first
 one_of false xs ys n first second = second
 
+-- To put digits before a text makes it no shorter.
 digits_longer : (k n : ℕ) (after : List ℕ) → length after ≤ length (digits_onto k 10 false n after)
 digits_longer zero n after = omega arith
 digits_longer (suc k) n after =

@@ -7,9 +7,11 @@ use Rattle.postcard_compat.specs.Said.{Word, said, said_all, said_at}
 use Rattle.postcard_compat.specs.Serving.{RowServes, SameMessages, SameRows, VariantsServe}
 use Rattle.postcard_compat.proofs.Served.{itself, through, option_serves, seq_serves, array_serves, group_serves, choice_serves, end_serves, none_serve, variant_serves}
 
+-- A type has the same messages as itself.
 pub same : (x : MessageType) → SameMessages x x
 same x = record { serves = itself (reads x) (said x); is_served = itself (reads x) (said x) }
 
+-- If `x` has the messages of `y`, then `y` has those of `x`.
 pub same_back : (x y : MessageType) → SameMessages x y → SameMessages y x
 same_back x y h = record { serves = h.is_served; is_served = h.serves }
 
@@ -27,9 +29,11 @@ rows_through P f Q g R h one two ts r =
     let (vs, p, again, more) = one us q in
     (vs, p, again ∙ same, λ l k. more l (spelled l k))
 
+-- The same of rows of parts.
 pub rows_back : (xs ys : List MessageType) → SameRows xs ys → SameRows ys xs
 rows_back xs ys h = record { serve = h.are_served; are_served = h.serve }
 
+-- If `xs` is the same as `ys`, and `ys` as `zs`, then `xs` is the same as `zs`.
 pub rows_after : (xs ys zs : List MessageType) → SameRows xs ys → SameRows ys zs → SameRows xs zs
 rows_after xs ys zs h k =
     let P = reads_all (row_of xs) in
@@ -42,24 +46,28 @@ rows_after xs ys zs h k =
 
 -- ---- Kinds of types
 
+-- Options of types with the same messages have the same messages.
 pub option_same : (x y : MessageType) → SameMessages x y → SameMessages (option x) (option y)
 option_same x y h = record {
   serves = option_serves (reads x) (said x) (reads y) (said y) h.serves;
   is_served = option_serves (reads y) (said y) (reads x) (said x) h.is_served;
 }
 
+-- Lists of elements with the same messages have the same messages.
 pub seq_same : (x y : MessageType) → SameMessages x y → SameMessages (seq x) (seq y)
 seq_same x y h = record {
   serves = seq_serves (reads x) (said x) (reads y) (said y) h.serves;
   is_served = seq_serves (reads y) (said y) (reads x) (said x) h.is_served;
 }
 
+-- Arrays of one length, of elements with the same messages, have the same messages.
 pub array_same : (n : ℕ) (x y : MessageType) → SameMessages x y → SameMessages (array n x) (array n y)
 array_same n x y h = record {
   serves = array_serves (reads x) (said x) (reads y) (said y) h.serves n;
   is_served = array_serves (reads y) (said y) (reads x) (said x) h.is_served n;
 }
 
+-- Groups have the same messages if their rows of parts do.
 pub group_same : (xs ys : List MessageType) → SameRows xs ys → SameMessages (group (row_of xs)) (group (row_of ys))
 group_same xs ys h =
     let P = reads_all (row_of xs) in
@@ -80,6 +88,7 @@ each_serves [] (y ∷ ys) h = absurd h
 each_serves (x ∷ xs) [] h = absurd h
 each_serves (x ∷ xs) (y ∷ ys) h = variant_serves x y (row_of xs) (row_of ys) h.0.serves (each_serves xs ys h.1)
 
+-- Enums have the same messages if their variants do, one by one.
 pub choice_same : (xs ys : List MessageType) → AllZip SameMessages xs ys → SameMessages (choice (row_of xs)) (choice (row_of ys))
 choice_same xs ys h =
     let P = reads_at (row_of xs) in
@@ -92,5 +101,6 @@ choice_same xs ys h =
 pub same_by : (x y : MessageType) → x ≡ y → SameMessages x y
 same_by x y e = subst (λ z. SameMessages x z) e (same x)
 
+-- Two rows without parts are the same.
 pub no_rows_same : SameRows [] []
 no_rows_same = record { serve = end_serves; are_served = end_serves }

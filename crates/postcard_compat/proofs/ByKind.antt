@@ -13,9 +13,11 @@ use Rattle.postcard_compat.specs.Said.{said, said_all, said_at}
 use Rattle.postcard_compat.specs.Serving.{Serves, AllServe, SameMessages, VariantsServe}
 use Rattle.postcard_compat.proofs.Served.{through, option_serves, seq_serves, array_serves, group_serves, choice_serves, choice_serves_option, end_serves, then_serves, none_serve, variant_serves}
 
+-- Equal types serve the same types.
 by : (n o x y : MessageType) → n ≡ x → o ≡ y → Serves x y → Serves n o
 by n o x y en eo h = subst (λ z. Serves n z) (sym eo) (subst (λ z. Serves z y) (sym en) h)
 
+-- A type without parts, if the names of both fit.
 pub of_leaf : (s n : Schema) (o w : Leaf) → s ≡ schemas.Leaf o → n ≡ schemas.Leaf w → Serves (leaf w) (leaf o) → Serves (type_of n) (type_of s)
 of_leaf s n o w is new_is h = by (type_of n) (type_of s) (leaf w) (leaf o) (ap type_of new_is ∙ type_of_leaf w) (ap type_of is ∙ type_of_leaf o) h
 
@@ -41,6 +43,7 @@ pub of_option : (s n d e : Schema) (a : Box Schema Global) → d ≡ a.value →
     → Serves (type_of e) (type_of d) → s ≡ schemas.Option a → Serves (type_of n) (type_of s)
 of_option s n d e a held stands h is = rw (is, type_of_option a, ← held) (stands (type_of d) h)
 
+-- Entries of maps serve if their keys and their values do.
 entries_serve : (k v x y : MessageType) → Serves k x → Serves v y → Serves (entry_of k v) (entry_of x y)
 entries_serve k v x y hk hv =
     let ns = then_type k (then_type v no_types) in
@@ -48,6 +51,7 @@ entries_serve k v x y hk hv =
     group_serves (reads_all ns) (said_all ns) (reads_all os) (said_all os)
     (then_serves k x (then_type v no_types) (then_type y no_types) hk (then_serves v y no_types no_types hv end_serves))
 
+-- A map.
 pub of_map : (s n : Schema) (a x b y : Box Schema Global) (da dx db dy : Schema) → da ≡ a.value → dx ≡ x.value → db ≡ b.value → dy ≡ y.value
     → Serves (type_of db) (type_of da) → Serves (type_of dy) (type_of dx) → s ≡ schemas.Map a x → n ≡ schemas.Map b y → Serves (type_of n) (type_of s)
 of_map s n a x b y da dx db dy ea ex eb ey key value is new_is =
@@ -72,14 +76,17 @@ of_group s n os ns is new many h =
     let parts : Serves row old = group_serves (reads_all (types_of ns)) (said_all (types_of ns)) (reads_all (types_of os)) (said_all (types_of os)) (all_serve ns os many h) in
     subst (λ z. Serves (type_of n) z) (sym is) (through (reads (type_of n)) (said (type_of n)) (reads row) (said row) (reads old) (said old) new.serves parts)
 
+-- A tuple, by its row of parts.
 pub of_tuple : (s n : Schema) (v : Vec Schema Global) (ns : List Schema) → s ≡ schemas.Tuple v → SameMessages (type_of n) (group (types_of ns))
     → length v.items ≡ length ns → VariantsServe (types_of ns) (types_of v.items) → Serves (type_of n) (type_of s)
 of_tuple s n v ns is = of_group s n v.items ns (ap type_of is ∙ type_of_tuple v)
 
+-- A struct, by its row of parts.
 pub of_struct : (s n : Schema) (v : Vec (Named Schema) Global) (ns : List Schema) → s ≡ schemas.Struct v → SameMessages (type_of n) (group (types_of ns))
     → length (contents v.items) ≡ length ns → VariantsServe (types_of ns) (types_of (contents v.items)) → Serves (type_of n) (type_of s)
 of_struct s n v ns is = of_group s n (contents v.items) ns (ap type_of is ∙ type_of_struct v)
 
+-- An enum, by its variants.
 pub of_enum : (s n : Schema) (v w : Vec (Named Schema) Global) → s ≡ schemas.Enum v → n ≡ schemas.Enum w
     → VariantsServe (types_of (contents w.items)) (types_of (contents v.items)) → Serves (type_of n) (type_of s)
 of_enum s n v w is new_is h =
@@ -102,6 +109,7 @@ two_variants [] a b low ea eb = absurd (omega (arith, low))
 two_variants (x ∷ []) a b low ea eb = absurd (omega (arith, low))
 two_variants (x ∷ y ∷ ns) a b low ea eb = (types_of (contents ns), rw (ea, eb) refl)
 
+-- A list of no schemas has no types.
 no_parts : (xs : List Schema) → length xs ≡ 0 → types_of xs ≡ no_types
 no_parts [] e = refl
 no_parts (x ∷ xs) e = absurd (omega (arith, e))

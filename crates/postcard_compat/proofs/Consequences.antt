@@ -9,9 +9,11 @@ use Rattle.postcard_compat.specs.Said.{said}
 use Rattle.postcard_compat.specs.Serving.{Serves}
 use Rattle.postcard_compat.proofs.Served.{itself, through}
 
+-- A type serves itself.
 pub reflexive : (a : MessageType) → Serves a a
 reflexive a = itself (reads a) (said a)
 
+-- What serves a type serves what that type serves.
 pub transitive : (a b c : MessageType) → Serves c b → Serves b a → Serves c a
 transitive a b c = through (reads c) (said c) (reads b) (said b) (reads a) (said a)
 

@@ -5,10 +5,12 @@ use Rattle.postcard_compat.specs.Telling.{word_of, words_of}
 use Rattle.postcard_compat.specs.Said.{Word, End}
 use Rattle.postcard_compat.specs.declared.word.Word.{Word as Spoken}
 
+-- The first word of a list, or `End`.
 abbrev head : List Word → Word
 head [] = End
 head (w ∷ ws) = w
 
+-- The words after the first.
 abbrev tail : List Word → List Word
 tail [] = []
 tail (w ∷ ws) = ws

@@ -22,13 +22,16 @@ use Rattle.postcard_compat.proofs.Splices.{rows_join, rows_one, no_parts_same, p
 
 -- ---- Structs and enums
 
+-- The types of fields in a row, by both definitions.
 named_row : (ns : List (Named Schema)) → types_of (contents ns) ≡ row_of (part_types ns)
 named_row [] = refl
 named_row (n ∷ ns) = ap (λ z. then_type (type_of n.content) z) (named_row ns)
 
+-- The type of a struct is the group of its row.
 struct_row : (v : Vec (Named Schema) Global) → type_of (schemas.Struct v) ≡ group (row_of (part_types v.items))
 struct_row v = type_of_struct v ∙ ap group (named_row v.items)
 
+-- The type of an enum is the choice of its row.
 enum_row : (v : Vec (Named Schema) Global) → type_of (schemas.Enum v) ≡ choice (row_of (part_types v.items))
 enum_row v = type_of_enum v ∙ ap choice (named_row v.items)
 
@@ -106,6 +109,7 @@ flat_kept d b n es held h = rw (type_of_array b n, held) (array_same n (type_of 
 pub struct_same : (v : Vec (Named Schema) Global) → SameMessages (type_of (schemas.Struct v)) (group (row_of (part_types v.items)))
 struct_same v = rw (struct_row v) (same (group (row_of (part_types v.items))))
 
+-- A list of one element, with a last element, has just that.
 last_alone : {A : Type 0} (xs ys : List A) (x : A) → length xs ≡ 1 → xs ≡ ys ++ x ∷ [] → xs ≡ x ∷ []
 last_alone xs [] x one e = e
 last_alone xs (y ∷ ys) x one e = absurd (omega (arith, one, ap length e, length-append ys (x ∷ [])))
@@ -149,6 +153,7 @@ bytes_same b l held is =
     let bytes = seq (leaf (leaves.Integer U8)) in
     rw (is, type_of_seq b, held, type_of_leaf (leaves.Integer U8)) (record { serves = itself (reads bytes) (said bytes); is_served = itself (reads bytes) (said bytes) })
 
+-- A list of length 0 is empty.
 pub no_items : {A : Type 0} (xs : List A) → length xs ≡ 0 → xs ≡ []
 no_items [] e = refl
 no_items (x ∷ xs) e = absurd (omega (arith, e))

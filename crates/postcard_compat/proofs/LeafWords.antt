@@ -23,6 +23,7 @@ integer_says I32 n = refl
 integer_says I64 n = refl
 integer_says I128 n = refl
 
+-- A number modulo a power is below it.
 below_power : (i : Integer) (n : ℕ) → n % 256 ^ size_of i < 256 ^ size_of i
 below_power U8 n = omega arith
 below_power U16 n = omega arith

@@ -74,6 +74,7 @@ choice_serves P f Q g h t (i, u, e, few, q) =
 zero_spelled : SpellsNum 32 0 (0 ∷ [])
 zero_spelled = record { digits = omega arith; count = lit≤ tt; value = refl }
 
+-- The number 1 is encoded as one byte.
 one_spelled : SpellsNum 32 1 (1 ∷ [])
 one_spelled = record { digits = omega arith; count = lit≤ tt; value = refl }
 
@@ -99,9 +100,11 @@ choice_serves_option a b x more h k t (inr (u, e, q)) =
       λ p l. let m : Spells (Present u) p = rw e at l in (m.0, m.1, subst (SpellsNum 32 1) (sym m.2) one_spelled, spelled m.1 m.3, m.4),
     )
 
+-- A row without parts serves one without parts.
 pub end_serves : AllServe no_types no_types
 end_serves ts e = (NoTrees, refl, refl, λ p k. rw e at k)
 
+-- A row serves another if its first part and the parts after it do.
 pub then_serves : (n o : MessageType) (ns os : MessageTypes) → Serves n o → AllServe ns os → AllServe (then_type n ns) (then_type o os)
 then_serves n o ns os h hs ts (u, us, e, q, qs) =
     let (s, r, same, spelled) = h u q in
@@ -113,6 +116,7 @@ then_serves n o ns os h hs ts (u, us, e, q, qs) =
 pub none_serve : (ns : MessageTypes) → VariantsServe ns no_types
 none_serve ns i t r = absurd r
 
+-- The same of variants.
 pub variant_serves : (n o : MessageType) (ns os : MessageTypes) → Serves n o → VariantsServe ns os → VariantsServe (then_type n ns) (then_type o os)
 variant_serves n o ns os h hs zero = h
 variant_serves n o ns os h hs (suc i) = hs i

@@ -17,10 +17,12 @@ abbrev join : Trees → Trees → Trees
 join NoTrees us = us
 join (Then t ts) us = Then t (join ts us)
 
+-- The encodings of two rows of trees, joined, encode the joined row.
 spelled_joined : (ts us : Trees) (p q : List ℕ) → SpellsAll ts p → SpellsAll us q → SpellsAll (join ts us) (p ++ q)
 spelled_joined NoTrees us p q a b = rw a b
 spelled_joined (Then t ts) us p q (x, y, s, k, e) b = (x, y ++ q, s, spelled_joined ts us y q k b, ap (λ r. r ++ q) e ∙ append_assoc x y q)
 
+-- An encoding of a joined row is one of the first row, and then one of the second.
 spelled_apart : (ts us : Trees) (p : List ℕ) → SpellsAll (join ts us) p → (x y : List ℕ) × SpellsAll ts x × SpellsAll us y × (p ≡ x ++ y)
 spelled_apart NoTrees us p s = ([], p, refl, s, refl)
 spelled_apart (Then t ts) us p (v, w, c, s, f) =
@@ -29,10 +31,12 @@ spelled_apart (Then t ts) us p (v, w, c, s, f) =
 
 -- ---- Rows of types
 
+-- Trees of two rows of types, joined, are trees of the joined row.
 read_joined : (xs ys : List MessageType) (us vs : Trees) → reads_all (row_of xs) us → reads_all (row_of ys) vs → reads_all (row_of (xs ++ ys)) (join us vs)
 read_joined [] ys us vs e r = rw e r
 read_joined (x ∷ xs) ys us vs (u, ws, e, q, a) r = rw e (u, join ws vs, refl, q, read_joined xs ys ws vs a r)
 
+-- Trees of a joined row of types are trees of the first row, and then trees of the second.
 read_apart : (xs ys : List MessageType) (ts : Trees) → reads_all (row_of (xs ++ ys)) ts
     → (us vs : Trees) × (ts ≡ join us vs) × reads_all (row_of xs) us × reads_all (row_of ys) vs
 read_apart [] ys ts r = (NoTrees, ts, refl, refl, r)
@@ -40,12 +44,14 @@ read_apart (x ∷ xs) ys ts (u, ws, e, q, r) =
     let (us, vs, f, a, b) = read_apart xs ys ws r in
     (Then u us, vs, e ∙ ap (λ z. Then u z) f, (u, us, refl, q, a), b)
 
+-- A joined row says what its first part says, and then what the second says.
 said_joined : (xs ys : List MessageType) (us vs : Trees) → reads_all (row_of xs) us
     → said_all (row_of (xs ++ ys)) (join us vs) ≡ said_all (row_of xs) us ++ said_all (row_of ys) vs
 said_joined [] ys us vs e = rw e refl
 said_joined (x ∷ xs) ys us vs (u, ws, e, q, a) =
     rw e (ap (λ z. said x u ++ z) (said_joined xs ys ws vs a) ∙ sym (append_assoc (said x u) (said_all (row_of xs) ws) (said_all (row_of ys) vs)))
 
+-- Joined rows serve joined rows if their parts do.
 join_serves : (ns ms os ps : List MessageType) → AllServe (row_of ns) (row_of os) → AllServe (row_of ms) (row_of ps)
     → AllServe (row_of (ns ++ ms)) (row_of (os ++ ps))
 join_serves ns ms os ps h k ts r =
@@ -62,12 +68,14 @@ join_serves ns ms os ps h k ts r =
           subst (SpellsAll (join xs ys)) (sym f) (spelled_joined xs ys x y (spelled x c) (respelled y d)),
     )
 
+-- Joined rows have the same messages if their parts do.
 pub rows_join : (xs ys zs ws : List MessageType) → SameRows xs ys → SameRows zs ws → SameRows (xs ++ zs) (ys ++ ws)
 rows_join xs ys zs ws h k = record {
   serve = join_serves xs zs ys ws h.serve k.serve;
   are_served = join_serves ys ws xs zs h.are_served k.are_served;
 }
 
+-- Rows of one part each have the same messages if the parts do.
 pub rows_one : (x y : MessageType) → SameMessages x y → SameRows (x ∷ []) (y ∷ [])
 rows_one x y h = record {
   serve = then_serves x y (row_of []) (row_of []) h.serves end_serves;
@@ -80,6 +88,7 @@ rows_one x y h = record {
 alone : (t : Tree) (p : List ℕ) → Spells t p → SpellsAll (Then t NoTrees) p
 alone t p s = (p, [], s, refl, sym (append-nil p))
 
+-- A row of one tree has the encodings of the tree.
 not_alone : (t : Tree) (p : List ℕ) → SpellsAll (Then t NoTrees) p → Spells t p
 not_alone t p (x, y, s, none, e) = subst (Spells t) (sym (e ∙ (ap (λ z. x ++ z) none ∙ append-nil x))) s
 

@@ -14,9 +14,11 @@ use Rattle.postcard_compat.specs.declared.word.Word.{Word as Spoken}
 
 -- ---- Words one after another
 
+-- Pushing a word appends just that word.
 pub pushed : (old new : List Spoken) (w : Spoken) → new ≡ old ++ w ∷ [] → Appends old new (word_of w ∷ [])
 pushed old new w e = ap words_of e ∙ map-append word_of old (w ∷ [])
 
+-- To append words and then more appends both.
 pub appends_then : (a b c : List Spoken) (x y : List Word) → Appends a b x → Appends b c y → Appends a c (x ++ y)
 appends_then a b c x y e f = f ∙ (ap (λ ws. ws ++ y) e ∙ append_assoc (words_of a) x y)
 
@@ -95,6 +97,7 @@ said_content (x ∷ xs) (suc i) n low e = said_content xs i n (omega (arith, low
 
 -- ---- Whole values
 
+-- A row of trees has as many as the list that it is made of.
 pub count_trees : (ts : List Tree) → count (trees ts) ≡ length ts
 count_trees [] = refl
 count_trees (t ∷ ts) = ap suc (count_trees ts)

@@ -16,9 +16,11 @@ use Rattle.postcard_compat.specs.Said.{Saying, integer_said}
 use Rattle.postcard_compat.specs.Serving.{SetServes, Serves}
 use Rattle.postcard_compat.specs.Parts.{integer_leaf}
 
+-- An encoding of a number in a narrower width is one in a wider.
 wider : (v w n : ℕ) (p : List ℕ) → v ≤ w → SpellsNum v n p → SpellsNum w n p
 wider v w n p more k = record { digits = k.digits; count = omega (arith, k.count, more); value = k.value }
 
+-- A power of 2 is at most that of an exponent greater by `k`.
 pow_up : (v k : ℕ) → 2 ^ v ≤ 2 ^ (v + k)
 pow_up v zero = let e : v + 0 ≡ v = omega arith in rw e (omega arith)
 pow_up v (suc k) =
@@ -26,6 +28,7 @@ pow_up v (suc k) =
     let p : 2 ^ suc (v + k) ≡ 2 * 2 ^ (v + k) = pow-succ' 2 (v + k) in
     rw e (omega (arith, p, pow_up v k))
 
+-- A power of 2 is at most that of any greater exponent.
 pow_more : (v w : ℕ) → v ≤ w → 2 ^ v ≤ 2 ^ w
 pow_more v w h = let e : v + (w - v) ≡ w = omega (arith, h) in subst (λ u. 2 ^ v ≤ 2 ^ u) e (pow_up v (w - v))
 

@@ -51,6 +51,7 @@ abbrev pub list_said : Saying → Saying
 list_said says (Seq ts) = Count (count ts) ∷ each_said says ts
 list_said says t = []
 
+-- What a message of a type without parts says.
 abbrev pub leaf_said : Leaf → Saying
 leaf_said leaves.Bool (Boolean x) = Truth x ∷ []
 leaf_said (leaves.Integer integer) t = integer_said integer t

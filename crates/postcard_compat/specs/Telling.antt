@@ -19,6 +19,7 @@ word_of (Count n) = say.Count n
 word_of (Index i) = say.Index i
 word_of End = say.End
 
+-- Words of the program, as those of the definition.
 abbrev pub words_of : List Spoken → List Word
 words_of = map word_of
 

@@ -52,9 +52,11 @@ of_integer i = record { has = integer_reads i; message = leaf (leaves.Integer i)
 abbrev pub of_some : (F : Tree → Type 0) (d : Described) → ((t : Tree) → F t → d.has t) → Described
 of_some F d h = record { has = F; message = d.message; exact = ⊥; within = some_within h d.within }
 
+-- An option of a type.
 abbrev pub of_option : Described → Described
 of_option d = record { has = IsOption d.has; message = option d.message; exact = d.exact; within = option_within d.within }
 
+-- A list of any number of elements.
 abbrev pub of_seq : Described → Described
 of_seq d = record { has = IsSeq d.has; message = seq d.message; exact = d.exact; within = seq_within d.within }
 
@@ -62,6 +64,7 @@ of_seq d = record { has = IsSeq d.has; message = seq d.message; exact = d.exact;
 abbrev pub of_few : ℕ → Described → Described
 of_few n d = record { has = IsFewSeq n d.has; message = seq d.message; exact = ⊥; within = few_within n d.within }
 
+-- An array of `n` elements.
 abbrev pub of_array : ℕ → Described → Described
 of_array n d = record { has = IsArray n d.has; message = array n d.message; exact = d.exact; within = array_within n d.within }
 
@@ -102,6 +105,7 @@ abbrev pub units : ℕ → List MessageType
 units zero = []
 units (suc n) = group no_types ∷ units n
 
+-- One unit more is the last of a row of units.
 pub units_next : (n : ℕ) → units (suc n) ≡ units n ++ group no_types ∷ []
 units_next zero = refl
 units_next (suc n) = ap (λ ts. group no_types ∷ ts) (units_next n)

@@ -12,6 +12,7 @@ abbrev pub names_of : {A : Type 0} → List (Named A) → List (List ℕ)
 names_of [] = []
 names_of (n ∷ ns) = string_bytes n.name ∷ names_of ns
 
+-- The names of joined lists are their names joined.
 pub names_append : {A : Type 0} (ns ms : List (Named A)) → names_of (ns ++ ms) ≡ names_of ns ++ names_of ms
 names_append [] ms = refl
 names_append (n ∷ ns) ms = ap (λ xs. string_bytes n.name ∷ xs) (names_append ns ms)

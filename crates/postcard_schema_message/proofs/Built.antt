@@ -17,22 +17,27 @@ use Rattle.postcard_schema_message.proofs.Rows.{all_append}
 
 -- ---- The end of a row
 
+-- The schema that is pushed last comes first in the forest.
 pub forest_push : (bs : List Built) (b : Built) → forest (bs ++ b ∷ []) ≡ view b.schema ∷ forest bs
 forest_push [] b = refl
 forest_push (a ∷ bs) b = ap (λ vs. vs ++ view a.schema ∷ []) (forest_push bs b)
 
+-- A forest has as many views as schemas were built.
 pub forest_length : (bs : List Built) → length (forest bs) ≡ length bs
 forest_length [] = refl
 forest_length (b ∷ bs) = let more = forest_length bs in omega (arith, more, length_push (forest bs) (view b.schema))
 
+-- One schema more is built.
 pub built_push : (bs : List Built) (b : Built) → AreBuilt bs → IsBuilt b → AreBuilt (bs ++ b ∷ [])
 built_push [] b all one = (one, tt)
 built_push (a ∷ bs) b all one = (all.0, built_push bs b all.1 one)
 
+-- The last of the built schemas is built.
 pub built_last : (bs : List Built) (b : Built) → AreBuilt (bs ++ b ∷ []) → IsBuilt b
 built_last [] b all = all.0
 built_last (a ∷ bs) b all = built_last bs b all.1
 
+-- The schemas before the last of the built ones are built.
 pub built_before : (bs : List Built) (b : Built) → AreBuilt (bs ++ b ∷ []) → AreBuilt bs
 built_before [] b all = tt
 built_before (a ∷ bs) b all = (all.0, built_before bs b all.1)

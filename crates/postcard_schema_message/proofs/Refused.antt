@@ -21,6 +21,7 @@ held_bounded : (ns : NamedViews) → AllElementsHaveBytes (held_types ns) → gr
 held_bounded no_names full low = tt
 held_bounded (then_name name v ns) full low = (record { full = full.0; low = omega (arith, low) }, held_bounded ns full.1 (omega (arith, low)))
 
+-- The parts of a bounded view are bounded.
 parts_bounded : (v : View) → IsBounded v → Each IsBounded (parts_of v)
 parts_bounded (leaf_view l) b = tt
 parts_bounded (option_view v) b = (record { full = b.full; low = omega (arith, b.low) }, tt)
@@ -72,9 +73,11 @@ no_part P breaks nodes (before, w, after, whole, is) v e bounded =
     let same : row.0 ≡ w ∷ after = same_row (preorder_all (w ∷ after)) row.0 (w ∷ after) row.2 refl in
     breaks w is (subst (Each IsBounded) same row.1).0
 
+-- A view that is too deep is not bounded.
 deep_breaks : (w : View) → IsDeep w → IsBounded w → ⊥
 deep_breaks w deep b = omega (arith, deep, b.low)
 
+-- A view with a list of elements without bytes is not bounded.
 empty_breaks : (w : View) → HasEmptyElements w → IsBounded w → ⊥
 empty_breaks (seq_view v) empty b = true≢false (sym b.full.0 ∙ empty)
 empty_breaks (map_view k v) empty b = true≢false (sym b.full.0 ∙ empty)

@@ -57,6 +57,7 @@ held_length : (ns : NamedViews) → length (held ns) ≡ length (names ns)
 held_length no_names = refl
 held_length (then_name name v ns) = let more = held_length ns in omega (arith, more)
 
+-- A view has as many parts as its root asks for.
 pub parts_length : (v : View) → length (parts_of v) ≡ arity (root_of v)
 parts_length (leaf_view l) = refl
 parts_length (option_view v) = refl
@@ -67,14 +68,17 @@ parts_length (tuple_view vs) = refl
 parts_length (struct_view ns) = held_length ns
 parts_length (enum_view ns) = held_length ns
 
+-- The views of a tuple, listed and put in a row again.
 views_again : (vs : Views) → views_of (listed vs) ≡ vs
 views_again no_views = refl
 views_again (then_view v vs) = ap (λ us. then_view v us) (views_again vs)
 
+-- Names and contents, taken apart and put together again.
 names_again : (ns : NamedViews) → named_of (paired (names ns) (held ns)) ≡ ns
 names_again no_names = refl
 names_again (then_name name v ns) = ap (λ ms. then_name name v ms) (names_again ns)
 
+-- A view is made of its root and its parts.
 made_again : (v : View) → make (root_of v) (parts_of v) ≡ v
 made_again (leaf_view l) = refl
 made_again (option_view v) = refl
@@ -94,9 +98,11 @@ first_root v vs n ns e = let o : root_of v ∷ preorder_all (parts_of v ++ vs) �
 pub after_root : (v : View) (vs : List View) (n : NodeView) (ns : List NodeView) → preorder_all (v ∷ vs) ≡ n ∷ ns → preorder_all (parts_of v ++ vs) ≡ ns
 after_root v vs n ns e = let o : root_of v ∷ preorder_all (parts_of v ++ vs) ≡ n ∷ ns = sym (opened v vs) ∙ e in cc o
 
+-- A schema has at least one node.
 some_nodes : (v : View) (vs : List View) → preorder_all (v ∷ vs) ≡ [] → ⊥
 some_nodes v vs e = let o : root_of v ∷ preorder_all (parts_of v ++ vs) ≡ [] = sym (opened v vs) ∙ e in cc o
 
+-- An empty list has no first node.
 no_nodes : (n : NodeView) (ns : List NodeView) → [] ≡ n ∷ ns → ⊥
 no_nodes n ns e = cc e
 
@@ -127,6 +133,7 @@ same_row (n ∷ ns) (t ∷ ts) (u ∷ us) p q =
 pub alone : (v : View) → preorder_all (v ∷ []) ≡ preorder v
 alone v = append-nil (preorder v)
 
+-- Views with the same nodes are equal.
 pub one_view : (v w : View) → preorder v ≡ preorder w → v ≡ w
 one_view v w e = let same : v ∷ [] ≡ w ∷ [] = same_row (preorder w) (v ∷ []) (w ∷ []) (alone v ∙ e) (alone w) in cc same
 

@@ -41,6 +41,7 @@ step_told (open_schema.Tuple v) = ap group (parts_told v.items)
 step_told (open_schema.Struct v) = ap group (names_told v.items)
 step_told (open_schema.Enum v) = ap choice (names_told v.items)
 
+-- The view of a schema has the schema's type.
 pub typed : (s : Schema) → message_type (view s) ≡ type_of s
 typed = ind-Schema (λ s. message_type (view s) ≡ type_of s) (λ x y is.
     let inner = subst (λ z. message_type (view_step (map-Schema Schema View view z)) ≡ type_step (map-Schema Schema MessageType type_of z)) is (step_told y) in

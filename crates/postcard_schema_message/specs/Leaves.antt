@@ -50,6 +50,7 @@ by_index =
 abbrev pub leaf_at : ℕ → Leaf
 leaf_at i = get_or by_index i leaves.Bool
 
+-- A leaf is found again by its index.
 pub leaf_back : (l : Leaf) → leaf_at (leaf_index l) ≡ l
 leaf_back leaves.Bool = refl
 leaf_back (leaves.Integer U8) = refl

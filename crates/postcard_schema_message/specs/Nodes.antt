@@ -18,6 +18,7 @@ pub data NodeView : Type 0 where
   struct_node : List (List ℕ) → NodeView
   enum_node : List (List ℕ) → NodeView
 
+-- Strings, as their bytes.
 abbrev pub texts : List (String Global) → List (List ℕ)
 texts names = map (string_bytes {Z = Global}) names
 
@@ -32,6 +33,7 @@ node_view (nodes.Tuple n) = tuple_node n
 node_view (nodes.Struct names) = struct_node (texts names.items)
 node_view (nodes.Enum names) = enum_node (texts names.items)
 
+-- Nodes, as their views.
 abbrev pub node_views : List Node → List NodeView
 node_views ns = map node_view ns
 

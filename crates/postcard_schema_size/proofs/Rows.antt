@@ -87,6 +87,7 @@ total_end sizes left all none total = (
 abbrev Below : ℕ → List (Named Schema) → Tree → Type 0
 Below k ns = IsVariant (λ i s. (i < k) × reads_at (content_types ns) i s)
 
+-- An index below `k + 1` is below `k`, or is `k`.
 below_or_at : (i k : ℕ) → i < k + 1 → (i < k) ⊎ (i ≡ k)
 below_or_at i k h = elim (cases_lt i k) [ inl low ↦ inl low | inr high ↦ inr (omega (arith, h, high)) ]
 

@@ -9,6 +9,7 @@ use Rattle.postcard_max.specs.Sizes.{limited, sum_of, greater_of}
 pub small : (n : ℕ) → n < 2 ^ 64 → limited n ≡ Some n
 small n h = ap (λ b. if b then Some n else None) (lt-ltb n (2 ^ 64) h)
 
+-- A number from 2^64 on has no limit.
 pub large : (n : ℕ) → 2 ^ 64 ≤ n → limited n ≡ None
 large n h = ap (λ b. if b then Some n else None) (le-ltb n (2 ^ 64) h)
 
@@ -27,6 +28,7 @@ pub zero_first : (b : Option ℕ) → IsSmall b → sum_of (Some 0) b ≡ b
 zero_first None h = refl
 zero_first (Some b) h = ap limited (omega arith) ∙ small b h
 
+-- Adding 0 changes no limit.
 pub zero_last : (a : Option ℕ) → IsSmall a → sum_of a (Some 0) ≡ a
 zero_last None h = refl
 zero_last (Some a) h = ap limited (omega arith) ∙ small a h
@@ -39,5 +41,6 @@ sums a b c = grind (arith, nat_tests)
 pub greaters : (a b c : Option ℕ) → greater_of (greater_of a b) c ≡ greater_of a (greater_of b c)
 greaters a b c = grind arith
 
+-- 0 is at most each limit.
 pub least_last : (a : Option ℕ) → greater_of a (Some 0) ≡ a
 least_last a = grind arith

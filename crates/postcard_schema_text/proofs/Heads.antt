@@ -1,4 +1,5 @@
 -- The first byte of a type, a variant and a field, after blanks.
+-- Signs are bytes: 38 is `&`, 40 `(`, 60 `<`, 63 `?`, 91 `[`, 123 `{`, 124 `|`.
 use Rattle.std.proofs.Common.{rules, ◌≡◌, ℕ, zero, suc, ◌<◌, nat_eq, Bool, true, false, Decides, ◌||◌, List, [], ◌∷◌, ◌++◌, length, string_bytes, refl, sym, ap, subst, ◌∙◌, true≢false, arith, ◌⊎◌, inl, inr}
 use Rattle.std.specs.Prelude.{slice_index}
 use Rattle.std.specs.Str.{IsTrimAsciiStart}
@@ -105,6 +106,7 @@ or_right false y e = e
 abbrev starts_enum : ℕ → Bool
 starts_enum x = nat_eq x 124 || is_ascii_uppercase x
 
+-- The text of an enum starts as one: with `|`, or with the name of a variant and the sign after it.
 enum_head : (T : Schema → List ℕ → Type 0) (s : Schema) (a r : List ℕ) → TakesPhrase (IsEnumText T s) a r → Starts starts_enum a
 enum_head T s a r (front, (v, is, differ, h), whole) = by_lead (takes_split _ _ a r (front, h, whole))
   where
@@ -151,6 +153,7 @@ abbrev pub in_options : ℕ → MessageType → MessageType
 in_options zero t = t
 in_options (suc n) t = in_options n (option t)
 
+-- One more option around `n` options makes `n + 1` of them.
 in_option : (n : ℕ) (t : MessageType) → option (in_options n t) ≡ in_options (suc n) t
 in_option zero t = refl
 in_option (suc n) t = in_option n (option t)
@@ -160,6 +163,7 @@ abbrev pub Signs : ℕ → ℕ → List ℕ → List ℕ → Type 0
 Signs sign zero a r = a ≡ r
 Signs sign (suc n) a r = (m : List ℕ) × TakesPhrase (IsSign sign) a m × Signs sign n m r
 
+-- Some signs of one kind, and one more at the end.
 signs_more : (sign n : ℕ) (a b r : List ℕ) → Signs sign n a b → TakesPhrase (IsSign sign) b r → Signs sign (suc n) a r
 signs_more sign zero a b r e h = (r, rw e h, refl)
 signs_more sign (suc n) a b r (m, first, more) h = (m, first, signs_more sign n m b r more h)

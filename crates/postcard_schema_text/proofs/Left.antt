@@ -38,12 +38,15 @@ other_sign x y a r q b c differ h k = true≢false (sym (eq-eqb x y (one_sign x 
 pub follows_black : (b : ℕ) → follows_type b ≡ true → is_ascii_whitespace b ≡ false
 follows_black b h = grind (arith, nat_tests, h)
 
+-- What may follow a variant is no blank.
 variant_black : (b : ℕ) → follows_variant b ≡ true → is_ascii_whitespace b ≡ false
 variant_black b h = grind (arith, nat_tests, h)
 
+-- What may follow a variant is no byte of a word.
 follows_ends : (b : ℕ) → follows_variant b ≡ true → is_of_word b ≡ false
 follows_ends b h = grind (arith, nat_tests, h)
 
+-- What may follow a type may follow a variant.
 wider : (b : ℕ) → follows_type b ≡ true → follows_variant b ≡ true
 wider b h = grind (arith, nat_tests, h)
 
@@ -65,6 +68,7 @@ not_next sign a r black none goes h = goes_on_not_by follows_variant sign a r va
 pub not_next_type : (sign : ℕ) (a r : List ℕ) → is_ascii_whitespace sign ≡ false → follows_type sign ≡ false → GoesOnBy follows_type a → TakesPhrase (IsSign sign) a r → ⊥
 not_next_type sign a r black none goes h = goes_on_not_by follows_type sign a r follows_black black none goes (sign_unblank sign a r black h)
 
+-- What may follow a variant's name is no byte of a word.
 name_ends : (b : ℕ) → follows_name b ≡ true → is_of_word b ≡ false
 name_ends b h = grind (arith, nat_tests, h)
 
@@ -77,6 +81,7 @@ name_ends_word (b ∷ text) (x, after, e, pass) = by (is_ascii_whitespace b) ref
     by true blank = blank_ends b blank
     by false black = subst (λ z. is_of_word z ≡ false) (sym (same_first (sym (unblank_black b text black) ∙ e))) (name_ends x pass)
 
+-- What may follow a type may not follow a variant's name.
 follows_no_name : (b : ℕ) → follows_type b ≡ true → follows_name b ≡ false
 follows_no_name b h = grind (arith, nat_tests, h)
 
@@ -121,6 +126,7 @@ alike_new (u ∷ xs) [] name h k = absurd h
 alike_new (u ∷ xs) (v ∷ ys) name h k =
     All-cons (HasOther name) v ys (λ same. All-head (HasOther name) u xs k (h.0.1 ∙ same)) (alike_new xs ys name h.1 (All-tail (HasOther name) u xs k))
 
+-- A name that is new to a row is not the name of an item within it.
 not_in : (before : List (Named Schema)) (x : Named Schema) (more : List (Named Schema)) (name : List ℕ) → IsNewTo (before ++ x ∷ more) name → HasOther name x
 not_in [] x more name h = All-head (HasOther name) x more h
 not_in (b ∷ before) x more name h = not_in before x more name (All-tail (HasOther name) b (before ++ x ∷ more) h)

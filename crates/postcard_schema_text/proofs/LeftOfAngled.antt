@@ -1,4 +1,5 @@
 -- What is left of a type of one type or two, after the first.
+-- Signs are bytes: 61 is `=`, 62 `>`, 125 `}`.
 use Rattle.std.proofs.Common.{◌≡◌, ℕ, List, refl, sym, ap, ◌∙◌, subst}
 use Rattle.postcard_schema.specs.declared.leaf.ByteOrder.{ByteOrder}
 use Rattle.postcard_schema.specs.declared.leaf.Leaf.TheVariants as leaves
@@ -70,6 +71,7 @@ pub record OneRead (h : Holder) (s : Schema) (t : MessageType) (c r : List ℕ) 
   pub is : type_of s ≡ holder_type h t
   pub same : r ≡ c
 
+-- If `x` is the only type there, the whole is the holder of its type, and the same bytes follow.
 pub one_read : (P : Types) (h : Holder) (s x : Schema) (a c r : List ℕ) → IsOnlyFront SameType Anything P x a c → TakesPhrase (IsOfOne h P s) a r
     → OneRead h s (type_of x) c r
 one_read P h s x a c r one k =
@@ -112,6 +114,7 @@ pub record TwoRead (p : Pair) (s : Schema) (t u : MessageType) (e r : List ℕ) 
   pub is : type_of s ≡ pair_type p t u
   pub same : r ≡ e
 
+-- The same of a pair, whose second type is `y`.
 pub two_read : (Q : Types) (p : Pair) (s y : Schema) (t : MessageType) (c e r : List ℕ) → IsOnlyFront SameType Anything Q y c e
     → SecondLeft Q p s t c r → TwoRead p s t (type_of y) e r
 two_read Q p s y t c e r one h =

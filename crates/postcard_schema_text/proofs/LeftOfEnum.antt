@@ -1,4 +1,5 @@
 -- What is left of an enum after its first variants, and of a variant after its name.
+-- Signs are bytes: 40 is `(`, 123 `{`, 124 `|`.
 use Rattle.std.proofs.Common.{◌≡◌, ℕ, suc, ◌<◌, Bool, true, false, List, [], ◌∷◌, ◌++◌, length, Vec, string_bytes, refl, sym, ap, ◌∙◌, subst, arith, inl, inr}
 use Rattle.std.specs.declared.alloc.Global.{Global}
 use Rattle.std.specs.Char.{is_ascii_uppercase}
@@ -118,6 +119,7 @@ enum_begins T leads s a b r (front, (v, is, differ, h), whole) given same none =
     by false given same none (k, (f, inr (many, nothing), e), row) =
         left false (λ p. many) (subst (λ t. TakesPhrase (Separated (IsVariantText T) 124 v.items) t r) (sym (same refl ∙ e ∙ ap (λ t. t ++ k) nothing)) row)
 
+-- After the variant that is next comes `|`, or what may follow the enum.
 next_variant_goes : (T : Types) (done : List (Named Schema)) (leads : Bool) (s : Schema) (a r : List ℕ) (h : EnumLeft T done leads s a r) (f : RowFront (IsVariantText T) 124 SameNamed done h.variants.items a r) → GoesOnBy follows_type r → GoesOnBy follows_variant f.rest
 next_variant_goes T done leads s a r h f goes = row_follows (IsVariantText T) 124 follows_variant f.more f.rest r refl f.left (goes_variant r goes)
 
@@ -151,6 +153,7 @@ enum_bar T done leads s a c r h goes bar = elim (row_goes (IsVariantText T) 124 
   | inr row ↦ record { variants = h.variants; is = h.is; differ = h.differ; many = h.many; row = row }
 ]
 
+-- Rows that are alike have the same length.
 alike_length : (xs ys : List (Named Schema)) → Alike SameNamed xs ys → length xs ≡ length ys
 alike_length [] [] h = refl
 alike_length [] (v ∷ ys) h = absurd h

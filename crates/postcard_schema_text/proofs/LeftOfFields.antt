@@ -1,4 +1,5 @@
 -- What is left of a struct after its first fields.
+-- Signs are bytes: 44 is `,`, 58 `:`, 125 `}`.
 use Rattle.std.proofs.Common.{◌≡◌, ℕ, ◌<◌, Bool, true, false, Decides, List, [], ◌∷◌, ◌++◌, length, Vec, string_bytes, refl, sym, ap, ◌∙◌, subst, true≢false, arith, ◌⊎◌, inl, inr}
 use Rattle.std.specs.declared.alloc.Global.{Global}
 use Rattle.std.proofs.lemmas.List.Elements.{All-nil, All-push, All-head, All-tail}
@@ -98,6 +99,7 @@ end_goes a r h = elim (end_sign a r h) [
   | inr (k, comma, close) ↦ inr (44, k, refl, comma)
 ]
 
+-- After the field that is next comes what may follow a type.
 field_goes : (T : Types) (done : List (Named Schema)) (s : Schema) (a r : List ℕ) (h : FieldsLeft T done s a r) (f : RowFront (IsField T) 44 SameNamed done h.fields.items a h.end) → GoesOnBy follows_type f.rest
 field_goes T done s a r h f = row_follows (IsField T) 44 follows_type f.more f.rest h.end refl f.left (end_goes h.end r h.takes_end)
 
@@ -128,11 +130,13 @@ pub record FieldsClosed (done : List (Named Schema)) (s : Schema) (e r : List �
   pub is : type_of s ≡ group (types_of (contents done))
   pub same : r ≡ e
 
+-- Where the fields end, the struct has the types of those taken.
 ended : (done : List (Named Schema)) (s : Schema) (v : Vec (Named Schema) Global) (a k : List ℕ) → type_of s ≡ group (types_of (contents v.items))
     → RowEnds SameNamed done v.items a k
     → type_of s ≡ group (types_of (contents done))
 ended done s v a k is h = is ∙ ap group (alike_contents v.items done h.alike)
 
+-- The `}` that ends the fields is the only one there.
 close_at : (T : Types) (done : List (Named Schema)) (s : Schema) (a e r : List ℕ) → FieldsAfter T done s a r → TakesPhrase (IsSign 125) a e → FieldsClosed done s e r
 close_at T done s a e r h close =
     let no_comma = λ (m : List ℕ) (comma : TakesPhrase (IsSign 44) a m). other_sign 44 125 a m e refl refl refl comma close in

@@ -1,4 +1,5 @@
 -- What is left of a type with a sign after it, and of a list or an array after the element type.
+-- Signs are bytes: 59 is `;`, 93 `]`.
 use Rattle.std.proofs.Common.{◌≡◌, ℕ, true, List, refl, ap, ◌∙◌, subst, ◌⊎◌, inl, inr}
 use Rattle.postcard_schema.specs.declared.schema.Schema.{Schema}
 use Rattle.postcard_schema.specs.Meaning.{MessageType, seq, array, has_bytes, type_of}

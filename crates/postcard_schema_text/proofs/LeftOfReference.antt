@@ -1,4 +1,5 @@
 -- What remains of a type after a `&`, after a `&` and its lifetime, and if there is no `&`.
+-- Signs are bytes: 38 is `&`, 39 `'`.
 use Rattle.std.proofs.Common.{◌≡◌, ℕ, zero, suc, ◌≤◌, List, [], ◌∷◌, ◌++◌, length, refl, sym, ap, ◌∙◌, subst, arith, inl, inr}
 use Rattle.postcard_schema.specs.declared.schema.Schema.{Schema}
 use Rattle.postcard_schema_text.specs.Text.{Then, TakesPhrase, IsSign, IsWord, EndsWord, IsIdentifier, TakesLifetime}
@@ -56,6 +57,7 @@ reference_takes T s a b r sign (front, h, whole) =
 no_quote : (T : Types) (s : Schema) (a b r : List ℕ) → TakesPhrase (IsReferred T s) a r → TakesPhrase (IsSign 39) a b → ⊥
 no_quote T s a b r h quote = starts_not_by starts_referred 39 a b refl refl (referred_head T s a r h) quote
 
+-- If a text doesn't go on with a word, its first bytes don't either.
 front_ends : (back r : List ℕ) → EndsWord (back ++ r) → EndsWord back
 front_ends [] r h = tt
 front_ends (b ∷ back) r h = h

@@ -1,4 +1,5 @@
 -- What is left of a tuple after its first types.
+-- Signs are bytes: 41 is `)`, 44 `,`.
 use Rattle.std.proofs.Common.{◌≡◌, ℕ, List, [], ◌∷◌, ◌++◌, length, Vec, refl, ap, ◌∙◌, subst, arith, ◌⊎◌, inl, inr}
 use Rattle.std.specs.declared.alloc.Global.{Global}
 use Rattle.postcard_schema.specs.declared.schema.Schema.{Schema}
@@ -24,6 +25,7 @@ pub record TupleFront (d : ℕ) (s : Schema) (a r : List ℕ) : Type 0 where
   pub left : ((type_of s ≡ type_of first) × TakesPhrase (IsSign 41) rest r)
       ⊎ ((v : Vec Schema Global) × (more : List Schema) × (k : List ℕ) × (type_of s ≡ group (types_of v.items)) × (v.items ≡ first ∷ more) × After (IsType d) 44 more rest k × TakesPhrase (IsTupleEnd (length v.items)) k r)
 
+-- The end of a tuple may follow a type.
 tuple_end_goes : (n : ℕ) (a r : List ℕ) → TakesPhrase (IsTupleEnd n) a r → GoesOnBy follows_type a
 tuple_end_goes n a r (front, inl h, whole) = let k = takes_split (IsSign 44) (IsSign 41) a r (front, h, whole) in inr (44, k.0, refl, k.1)
 tuple_end_goes n a r (front, inr (many, h), whole) = inr (41, r, refl, (front, h, whole))
@@ -107,6 +109,7 @@ tuple_after_first d s x a c r one f none =
       }
     ]
 
+-- Where the parts end, the tuple has the types of those taken.
 tuple_types : (done : List Schema) (s : Schema) (v : Vec Schema Global) (a k : List ℕ) → type_of s ≡ group (types_of v.items)
     → RowEnds SameType done v.items a k → type_of s ≡ group (types_of done)
 tuple_types done s v a k is h = is ∙ ap group (alike_types v.items done h.alike)
@@ -178,6 +181,7 @@ tuple_next d done s a c r h comma none = elim (tuple_comma d done s a c r h comm
   | inr k ↦ k
 ]
 
+-- After the part that is next comes what may follow a type.
 next_goes : (d : ℕ) (done : List Schema) (s : Schema) (a r : List ℕ) → (h : TupleLeft d done s a r)
     → (f : RowFront (IsType d) 44 SameType done h.parts.items a h.end) → GoesOnBy follows_type f.rest
 next_goes d done s a r h f = row_follows (IsType d) 44 follows_type f.more f.rest h.end refl f.left (tuple_end_goes (length h.parts.items) h.end r h.takes_end)

@@ -1,4 +1,5 @@
 -- What is left of a type after its brackets, its word and its `?`.
+-- Signs are bytes: 38 is `&`, 40 `(`, 58 `:`, 60 `<`, 63 `?`, 91 `[`, 123 `{`, 124 `|`.
 use Rattle.std.proofs.Common.{◌≡◌, ℕ, zero, suc, ◌+◌, ◌<◌, ◌≤◌, Bool, true, false, Decides, List, [], ◌∷◌, ◌++◌, length, refl, sym, ap, ◌∙◌, subst, true≢false, arith, ◌⊎◌, inl, inr}
 use Rattle.std.specs.Char.{is_ascii_whitespace}
 use Rattle.postcard_schema.specs.declared.schema.Schema.{Schema}
@@ -42,6 +43,7 @@ pub record WordFront (T : Types) (s : Schema) (v b r : List ℕ) : Type 0 where
   pub named : IsTypeName v kind
   pub left : TakesPhrase (IsNamedRest T kind s) b r
 
+-- If no word follows a type, none goes on after the type's name.
 name_ends : (T : Types) (k : TypeName) (s : Schema) (b r : List ℕ) → EndsWord r → TakesPhrase (IsNamedRest T k s) b r → EndsWord b
 name_ends T k s b r ends h = elim (name_end T k s b r h) [
   | inl same ↦ subst EndsWord (sym same) ends
@@ -83,10 +85,12 @@ question_ends : (n : ℕ) (m r : List ℕ) → GoesOnBy follows_type r → Signs
 question_ends zero m r goes same = subst EndsWord (sym same) (goes_ends_word r (goes_variant r goes))
 question_ends (suc n) m r goes (k, sign, more) = sign_ends_word 63 m k refl sign
 
+-- Signs `?` (byte 63) and what follows a type don't begin as what follows a variant's name.
 question_no_name : (n : ℕ) (m r : List ℕ) → GoesOnBy follows_type r → Signs 63 n m r → Starts follows_name m → ⊥
 question_no_name zero m r goes same h = goes_no_name r goes (subst (Starts follows_name) same h)
 question_no_name (suc n) m r goes (k, sign, more) h = starts_not_by follows_name 63 m k refl refl h sign
 
+-- They don't begin with a `:` (byte 58), either.
 question_no_colon : (n : ℕ) (m r c : List ℕ) → GoesOnBy follows_type r → Signs 63 n m r → TakesPhrase (IsSign 58) m c → ⊥
 question_no_colon zero m r c goes same colon = not_next_type 58 r c refl refl goes (subst (λ t. TakesPhrase (IsSign 58) t c) same colon)
 question_no_colon (suc n) m r c goes (k, sign, more) colon = other_sign 63 58 m k c refl refl refl sign colon
@@ -102,6 +106,7 @@ plain_word T s a v b m filled taken ends (front, inr (inr (inl h)), whole) =
 plain_word T s a v b m filled taken ends (front, inr (inr (inr h)), whole) =
     let k = takes_split (IsSign 123) (IsBracesRest T s) a m (front, h, whole) in absurd (word_not_sign v 123 a b k.0 filled refl refl taken k.1)
 
+-- The same of a type that may begin with `&`: where a word is next, it doesn't.
 referred_word : (T : Types) (s : Schema) (a v b m : List ℕ) → 0 < length v → WordTaken a v b → EndsWord m → TakesPhrase (IsReferred T s) a m
     → (b ≡ m) ⊎ ((c : List ℕ) × TakesPhrase (IsSign 60) b c)
 referred_word T s a v b m filled taken ends (front, (zero, h), whole) = plain_word T s a v b m filled taken ends (front, h, whole)

@@ -65,10 +65,12 @@ value_grows radix n (d ∷ ds) some =
     let more = value_grows radix (n * radix + digit_value d) ds some in
     omega (arith, more, le-mul_of_pos_right n some)
 
+-- A word that is no number of one kind is none of an equal kind.
 no_number_as : (P Q : ℕ → Type 0) → ((n : ℕ) → P n → Q n) → ((n : ℕ) → Q n → P n) → (e : LiteralError) → IsNoNumber P e → IsNoNumber Q e
 no_number_as P Q to from Malformed none = λ n h. none n (from n h)
 no_number_as P Q to from TooLarge (n, h, large) = (n, to n h, large)
 
+-- The same of a result that may be a number.
 refused_as : {T : Type 0} (P Q : ℕ → Type 0) → ((n : ℕ) → P n → Q n) → ((n : ℕ) → Q n → P n) → (r : Result T LiteralError) → IfErr r (IsNoNumber P)
     → IfErr r (IsNoNumber Q)
 refused_as P Q to from (Ok x) h = tt

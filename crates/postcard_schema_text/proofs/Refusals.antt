@@ -63,6 +63,7 @@ takes_less sign a b (front, (blanks, phrase, blank, is, e), whole) =
     let inner = ap length e ∙ length-append blanks phrase in
     omega (arith, one, long, inner)
 
+-- A list without elements is empty.
 pub is_empty : (xs : List ℕ) → length xs ≤ 0 → xs ≡ []
 is_empty [] h = refl
 is_empty (x ∷ xs) h = absurd (omega (arith, h))

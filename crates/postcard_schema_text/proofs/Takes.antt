@@ -1,4 +1,5 @@
 -- If the phrases of a type are taken from the text one after another, the type is taken. There is a lemma for each kind of type.
+-- Signs are bytes: 44 is `,`, 58 `:`, 59 `;`, 63 `?`, 93 `]`, 124 `|`, 125 `}`.
 use Rattle.std.proofs.Common.{◌≡◌, ℕ, suc, ◌<◌, ◌≤◌, Bool, true, false, List, [], length, Vec, Box, refl, sym, ◌⊎◌, inl, inr}
 use Rattle.std.specs.declared.alloc.Global.{Global}
 use Rattle.postcard_schema.specs.declared.schema.Named.{Named}

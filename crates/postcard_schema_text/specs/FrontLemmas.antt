@@ -9,12 +9,15 @@ use Rattle.std.specs.Str.{IsTrimAsciiStart, IsUtf8}
 use Rattle.std.specs.Char.{is_ascii_whitespace}
 use Rattle.postcard_schema_text.specs.Text.{unblank, AreBlank, Led, Then, TakesPhrase, IsSign, IsWord, is_of_word, EndsWord, GoesOnBy}
 
+-- The first byte passes a test that all bytes pass.
 pub pass_head : (p : ℕ → Bool) (x : ℕ) (xs : List ℕ) → AllPass p (x ∷ xs) → p x ≡ true
 pass_head p x xs h = h 0 x (omega arith)
 
+-- The bytes after the first pass it, too.
 pub pass_tail : (p : ℕ → Bool) (x : ℕ) (xs : List ℕ) → AllPass p (x ∷ xs) → AllPass p xs
 pass_tail p x xs h k d low = h (suc k) d (omega (arith, low))
 
+-- One step of dropping blanks: if the first byte is one, those after it follow, and else nothing is dropped.
 drop_one : (x : Bool) (n b : ℕ) (text rest : List ℕ) → drop n text ≡ rest → drop (cond x (1 + n) 0) (b ∷ text) ≡ cond x rest (b ∷ text)
 drop_one true n b text rest h = let e : 1 + n ≡ suc n = omega arith in ap (λ k. drop k (b ∷ text)) e ∙ h
 drop_one false n b text rest h = refl
@@ -74,12 +77,15 @@ word_unblank x word text rest (front, (pass, led), whole) =
 pub takes_split : (P Q : List ℕ → Type 0) (a c : List ℕ) → TakesPhrase (Then P Q) a c → (b : List ℕ) × TakesPhrase P a b × TakesPhrase Q b c
 takes_split P Q a c (front, (x, y, p, q, e), whole) = (y ++ c, (x, p, whole ∙ ap (λ t. t ++ c) e ∙ append_assoc x y c), (y, q, refl))
 
+-- Equal lists have equal first bytes,
 pub same_first : {x y : ℕ} {xs ys : List ℕ} → x ∷ xs ≡ y ∷ ys → x ≡ y
 same_first e = cc
 
+-- and equal remaining bytes.
 pub same_rest : {x y : ℕ} {xs ys : List ℕ} → x ∷ xs ≡ y ∷ ys → xs ≡ ys
 same_rest e = cc
 
+-- An empty list has no first byte.
 pub not_empty : {x : ℕ} {xs : List ℕ} → [] ≡ x ∷ xs → ⊥
 not_empty e = cc
 
@@ -130,6 +136,7 @@ ends_at zero (b ∷ text) h = h (omega arith)
 ends_at (suc n) [] h = tt
 ends_at (suc n) (b ∷ text) h = ends_at n text (λ low. h (omega (arith, low)))
 
+-- A byte of a word is ASCII.
 word_ascii : (b : ℕ) → is_of_word b ≡ true → b < 128
 word_ascii b h = grind (arith, nat_tests)
 

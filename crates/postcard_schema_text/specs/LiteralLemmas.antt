@@ -8,6 +8,7 @@ use Rattle.postcard_schema_text.specs.Literals.{is_underscore, without_underscor
 use Rattle.postcard_schema_text.specs.Text.{is_of_word}
 use Rattle.postcard_schema_text.specs.FrontLemmas.{same_first, same_rest}
 
+-- All bytes pass a test if the first and the remaining ones do.
 pub pass_cons : (p : ℕ → Bool) (b : ℕ) (bs : List ℕ) → p b ≡ true → AllPass p bs → AllPass p (b ∷ bs)
 pass_cons p b bs h all zero d inside = h
 pass_cons p b bs h all (suc k) d inside = all k d (omega (arith, inside))
@@ -73,6 +74,7 @@ one_literal n m text (inl a) (inr (letter, digits, b, e)) =
     let c = marked_is n letter digits text e (radix_or (radix_of letter) (without_underscores digits) (radixes letter) b.0) (inl a) in
     c.1 ∙ sym b.1
 
+-- A digit, also one above 9, is a byte of a word.
 digit_of_word : (radix b : ℕ) → radix ≤ 16 → is_of_digits radix b ≡ true → is_of_word b ≡ true
 digit_of_word radix b high h = grind (arith, nat_tests, high, h)
 

@@ -27,6 +27,7 @@ takes_two P Q a b c (x, p, e) (y, q, f) = (x ++ y, (x, y, p, q, refl), e ∙ ap 
 pub takes_as : (P Q : List ℕ → Type 0) (a b : List ℕ) → ((t : List ℕ) → P t → Q t) → TakesPhrase P a b → TakesPhrase Q a b
 takes_as P Q a b f (x, p, e) = (x, f x p, e)
 
+-- Of two numbers the first is less, or the second is at most the first.
 lt_or_le : (k n : ℕ) → (k < n) ⊎ (n ≤ k)
 lt_or_le k n = grind arith
 

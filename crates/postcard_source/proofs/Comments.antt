@@ -13,6 +13,7 @@ Inside s t = CommentStep s t × (0 < t.0)
 ends_or_begins : (s t u : List ℕ) → s ≡ 42 ∷ 47 ∷ t → s ≡ 47 ∷ 42 ∷ u → ⊥
 ends_or_begins s t u e f = let h : 42 ≡ 47 = same_first (sym e ∙ f) in absurd (omega (arith, h))
 
+-- A step inside a comment leads to one state.
 one_step : (m n k : ℕ) (s t u : List ℕ) → CommentStep (m, s) (n, t) → CommentStep (m, s) (k, u) → (n ≡ k) × (t ≡ u)
 one_step m n k s t u (inl (d, e)) (inl (f, g)) = (omega (arith, d, f), same_rest (same_rest (sym e ∙ g)))
 one_step m n k s t u (inl (d, e)) (inr (inl (f, g))) = absurd (ends_or_begins s t u e g)
@@ -27,6 +28,7 @@ one_step m n k s t u (inr (inr (b, d, e, no_end, no_start))) (inr (inr (a, f, g,
 same_pair : (n k : ℕ) (t u : List ℕ) → n ≡ k → t ≡ u → (λ (x : ℕ × List ℕ). x) (n, t) ≡ (λ (x : ℕ × List ℕ). x) (k, u)
 same_pair n k t u e f = cc
 
+-- The same of states as pairs.
 same_state : (s t u : ℕ × List ℕ) → CommentStep s t → CommentStep s u → t ≡ u
 same_state (m, s) (n, t) (k, u) f g =
     let both = one_step m n k s t u f g in

@@ -4,9 +4,11 @@ use Rattle.std.specs.Prelude.{codes}
 use Rattle.postcard_source.specs.declared.token.Token.{Token}
 use Rattle.postcard_source.specs.Words.{EndsDiscriminant, IsDiscriminant, IsSign}
 
+-- A number from `a` on is `a` or greater.
 first_or_later : (a b : ℕ) → a ≤ b → (b ≡ a) ⊎ (a < b)
 first_or_later a b h = grind (arith, h)
 
+-- Of two numbers the first is at most the second, or the second is less.
 before_or_after : (a b : ℕ) → (a ≤ b) ⊎ (b < a)
 before_or_after a b = grind (arith)
 

@@ -20,6 +20,7 @@ one_where P A B C D f g (inl (p, a)) (inr (none, d)) = absurd (none p)
 one_where P A B C D f g (inr (none, b)) (inl (q, c)) = absurd (none q)
 one_where P A B C D f g (inr (none, b)) (inr (never, d)) = g b d
 
+-- Two lists that equal a third are equal.
 both_are : (word a b : List ℕ) → a ≡ word → b ≡ word → a ≡ b
 both_are word a b e f = e ∙ sym f
 
@@ -55,9 +56,11 @@ nothing_yet tokens known d j text (own _ i _ before word _ spelled is_own is_nex
 nothing_yet tokens known d j text (named _ f i _ before inner _ spelled refers whole is_next is_whole) e =
     let low = start_le tokens known d i before spelled in absurd (omega (arith, low, is_next, e))
 
+-- A number from `a` on is `a` or greater.
 first_or_later : (a b : ℕ) → a ≤ b → (b ≡ a) ⊎ (a < b)
 first_or_later a b h = grind (arith, h)
 
+-- A text that begins as a type still does with more after it.
 opens_more : (a b : List ℕ) → Opens a → Opens (a ++ b)
 opens_more a b (rest, inl e) = (rest ++ b, inl (ap (λ t. t ++ b) e))
 opens_more a b (rest, inr e) = (rest ++ b, inr (ap (λ t. t ++ b) e))

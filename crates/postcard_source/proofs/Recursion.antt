@@ -26,10 +26,12 @@ data Ends (tokens : List Token) (known : List Declaration) : Declaration → Typ
 mentioned_ends : (tokens : List Token) (known : List Declaration) (d e : Declaration) → Ends tokens known d → Mentions tokens known d e → Ends tokens known e
 mentioned_ends tokens known d e (ends _ f) mention = f e mention
 
+-- What is reached from a declaration that ends, ends.
 reached_ends : (tokens : List Token) (known : List Declaration) (d e : Declaration) → Ends tokens known d → Reaches tokens known d e → Ends tokens known e
 reached_ends tokens known d e h none = h
 reached_ends tokens known d e h (more {s} {t} before step) = mentioned_ends tokens known s t (reached_ends tokens known d s h before) step
 
+-- A declaration that ends doesn't reach itself.
 no_cycle : (tokens : List Token) (known : List Declaration) (d : Declaration) → Ends tokens known d → (e : Declaration) → Mentions tokens known d e → Reaches tokens known e d → ⊥
 no_cycle tokens known d (ends _ f) e mention back = elim (first_step e d back) as (λ _. ⊥) [
   | inl same ↦ no_cycle tokens known e (f e mention) e (subst (λ x. Mentions tokens known x e) (sym same) mention) none

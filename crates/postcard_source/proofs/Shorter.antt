@@ -12,11 +12,13 @@ use Rattle.postcard_source.proofs.RawFronts.{raw_letters}
 behind : (text front rest : List ℕ) → text ≡ front ++ rest → length text ≡ length front + length rest
 behind text front rest e = let h = ap length e in omega (arith, h, length-append front rest)
 
+-- A step inside a comment leaves fewer bytes.
 pub comment_step : (s t : ℕ × List ℕ) → CommentStep s t → length t.1 < length s.1
 comment_step s t (inl (depth, e)) = let h = ap length e in omega (arith, h)
 comment_step s t (inr (inl (depth, e))) = let h = ap length e in omega (arith, h)
 comment_step s t (inr (inr (b, depth, e, no_end, no_start))) = let h = ap length e in omega (arith, h)
 
+-- Several steps leave no more bytes.
 comment_steps : (s t : ℕ × List ℕ) → Steps (λ a b. CommentStep a b × (0 < b.0)) s t → length t.1 ≤ length s.1
 comment_steps start end none = omega arith
 comment_steps start end (more {s} {t} before step) =
@@ -24,6 +26,7 @@ comment_steps start end (more {s} {t} before step) =
     let next = comment_step s t step.0 in
     omega (arith, first, next)
 
+-- A comment takes at least one byte.
 comment_shorter : (text rest : List ℕ) → IsBlockComment text rest → length rest < length text
 comment_shorter text rest (inner, e, (last, steps, end)) =
     let h = ap length e in
@@ -31,6 +34,7 @@ comment_shorter text rest (inner, e, (last, steps, end)) =
     let next = comment_step last (0, rest) end in
     omega (arith, h, within, next)
 
+-- A lifetime takes at least one byte.
 life_shorter : (text rest : List ℕ) → IsLifetime text rest → length rest < length text
 unfolding IsLifetime
 life_shorter text rest (inner, name, after, e, (pass, ends, whole), filled, no_quote, inl (comma, is)) =
@@ -38,6 +42,7 @@ life_shorter text rest (inner, name, after, e, (pass, ends, whole), filled, no_q
 life_shorter text rest (inner, name, after, e, (pass, ends, whole), filled, no_quote, inr (no_comma, is)) =
     let h = ap length e in let k = behind inner name after whole in let l = ap length is in omega (arith, h, k, l)
 
+-- A gap between tokens takes at least one byte.
 pub gap_shorter : (text rest : List ℕ) → IsGap text rest → length rest < length text
 unfolding IsGap
 gap_shorter text rest (inl (b, white, e)) = let h = ap length e in omega (arith, h)
@@ -45,23 +50,27 @@ gap_shorter text rest (inr (inl (line, e, plain, end))) = let h = ap length e in
 gap_shorter text rest (inr (inr (inl life))) = life_shorter text rest life
 gap_shorter text rest (inr (inr (inr comment))) = comment_shorter text rest comment
 
+-- A literal between quotes takes at least one byte.
 literal_shorter : (quote : ℕ) (token text rest : List ℕ) → IsLiteral quote token text rest → length rest < length text
 literal_shorter quote token text rest (inner, begins, (last, letters, end), whole) =
     let (front, e) = letters_front quote inner last letters in
     let h = ap length begins in let k = behind inner front last e in let l = ap length end in omega (arith, h, k, l)
 
+-- A raw string takes at least one byte.
 raw_shorter : (token text rest : List ℕ) → IsRaw token text rest → length rest < length text
 raw_shorter token text rest (hashes, inner, (word, after, is, (pass, ends, whole), (all, stops, runs)), (last, letters, end), same) =
     let (front, e) = raw_letters hashes inner last letters in
     let h = behind text word after whole in let k = behind after hashes (34 ∷ inner) runs in
     let l = behind inner front last e in let m = behind last (34 ∷ hashes) rest end in omega (arith, h, k, l, m)
 
+-- A token of another kind takes at least one byte.
 other_shorter : (token text rest : List ℕ) → IsOtherAt token text rest → length rest < length text
 other_shorter token text rest (inl (two, (same, e))) = let h = ap length e in omega (arith, h)
 other_shorter token text rest (inr (no_two, inl (quote, literal))) = literal_shorter 34 token text rest literal
 other_shorter token text rest (inr (no_two, inr (no_quote, inl (quote, literal)))) = literal_shorter 39 token text rest literal
 other_shorter token text rest (inr (no_two, inr (no_quote, inr (no_other, (b, low, same, e))))) = let h = ap length e in omega (arith, h)
 
+-- So each token takes at least one byte, and the tokens of a text come to an end.
 pub token_shorter : (token text rest : List ℕ) → IsTokenAt token text rest → length rest < length text
 unfolding IsTokenAt
 token_shorter token text rest (inl (opens, raw)) = raw_shorter token text rest raw

@@ -6,6 +6,7 @@ use Rattle.postcard_source.specs.declared.declaration.Kind.{Kind}
 use Rattle.postcard_source.specs.declared.declaration.Kind.TheVariants.{Struct, Enum, Alias}
 use Rattle.postcard_source.specs.Tokens.{Says, IsNameAt}
 
+-- The word begins a declaration of this kind.
 abbrev pub IsKeyword : List ℕ → Kind → Type 0
 IsKeyword word Struct = word ≡ codes "struct"
 IsKeyword word Enum = word ≡ codes "enum"

@@ -49,6 +49,7 @@ unfoldable pub IsLifetime : List ℕ → List ℕ → Type 0
 IsLifetime text rest = (inner : List ℕ) × (name : List ℕ) × (after : List ℕ) × (text ≡ 39 ∷ inner) × IsWordFront name inner after × (0 < length name)
     × (BeginsBy 39 after → ⊥) × Where (BeginsBy 44 after) (after ≡ 44 ∷ rest) (rest ≡ after)
 
+-- A blank is next.
 abbrev pub IsBlank : List ℕ → List ℕ → Type 0
 IsBlank text rest = (b : ℕ) × (is_ascii_whitespace b ≡ true) × (text ≡ b ∷ rest)
 
@@ -77,9 +78,11 @@ unfoldable pub IsTokenAt : List ℕ → List ℕ → List ℕ → Type 0
 IsTokenAt token text rest =
     Where ((hashes : List ℕ) × (inner : List ℕ) × IsRawOpening hashes text inner) (IsRaw token text rest) (IsPlainAt token text rest)
 
+-- The token is an opening bracket.
 abbrev pub IsOpening : List ℕ → Type 0
 IsOpening word = (word ≡ codes "(") ⊎ ((word ≡ codes "[") ⊎ (word ≡ codes "{"))
 
+-- The token is a closing bracket.
 abbrev pub IsClosing : List ℕ → Type 0
 IsClosing word = (word ≡ codes ")") ⊎ ((word ≡ codes "]") ⊎ (word ≡ codes "}"))
 

@@ -29,6 +29,7 @@ IsFrontBy passes front text rest = AllPass passes front × EndsBy passes rest ×
 abbrev pub is_of_word : ℕ → Bool
 is_of_word b = (is_ascii_alphanumeric b || nat_eq b 95) || not (ltb b 128)
 
+-- No byte of a word is next.
 abbrev pub EndsWord : List ℕ → Type 0
 EndsWord text = EndsBy is_of_word text
 
@@ -45,6 +46,7 @@ BeginsName word = (first : ℕ) × (letters : List ℕ) × (word ≡ first ∷ l
 abbrev pub IsName : List ℕ → Type 0
 IsName word = AllPass is_of_word word × BeginsName word
 
+-- The token at the index is a name.
 abbrev pub IsNameAt : List Token → ℕ → Type 0
 IsNameAt tokens i = (t : Token) × (slice_get tokens i ≡ Some t) × IsName t.text.now
 

@@ -1,4 +1,5 @@
--- An option is read, and then those after it.
+-- An option is read, and then those after it. A word that is no option, or one that is given already, makes the words misused.
+-- `all` says that the words are the first one and those after it.
 use Rattle.std.proofs.Common.{◌≡◌, map, string_bytes, sym, ap, ◌∙◌, Global, true}
 use Rattle.pcard_call.proofs.WordLemmas.{whole, none, if_ok, if_err}
 use Rattle.pcard_compat.specs.Requests.{begins_switch, at_end, at_operand, after, bad_switch, later}

@@ -1,4 +1,5 @@
--- Each turn prints the row of one code byte and skips its group. The row of the last zero comes at the end.
+-- Each turn prints the row of one code byte and skips its group. The row of the last zero comes at the end. By the invariant, all
+-- rows are printed up to an output `final`, if the remaining rows lead to that output.
 use Rattle.std.proofs.Common.{◌≡◌, ℕ, ◌+◌, ◌-◌, List, [], ◌∷◌, length, get_or, drop, refl, sym, subst, arith}
 use Rattle.std.specs.Prelude.{Bool, true}
 use Rattle.std.proofs.KnownBytes.{Appends-nil}
@@ -10,15 +11,15 @@ use Rattle.pcard_explain.proofs.RowLemmas.{code_step, group_step}
 use Rattle.pcard_explain.proofs.codes.print_codes.Goals as goal
 
 pub loop-at-preserved-then-left-gt0 : goal.loop-at-preserved-then-left-gt0
-loop-at-preserved-then-left-gt0 g c = λ last h.
+loop-at-preserved-then-left-gt0 g c = λ final h.
     let frame = c.args.frame.now in
     let layout : Layout = c.layout_of-layout.result in
-    c.loop-at.invariant last
-    (subst (λ (rows : List Noted). PrintsNotes layout rows (g.W.Write.contents c.loop-at.output) last)
+    c.loop-at.invariant final
+    (subst (λ (rows : List Noted). PrintsNotes layout rows (g.W.Write.contents c.loop-at.output) final)
     (sym (group_step frame c.loop-at.at c.loop-at.left (omega arith) (omega arith))) h)
 
 pub loop-at-preserved : goal.loop-at-preserved
-loop-at-preserved g c = λ last h.
+loop-at-preserved g c = λ final h.
     let frame = c.args.frame.now in
     let layout : Layout = c.layout_of-layout.result in
     let at = c.loop-at.at in
@@ -28,9 +29,9 @@ loop-at-preserved g c = λ last h.
     let none : c.loop-at.left ≡ 0 = omega arith in
     let size : c.from-left.result ≡ b - 1 = omega (arith, c.from-left.ensures, c.saturating_sub.ensures) in
     let note = subst (λ (zero : Bool). PrintsNote layout at (b ∷ []) (code b zero) old new) c.has_zero-zero.ensures c.in_ok-print_note.ensures.printed in
-    c.loop-at.invariant last
-    (subst (λ (rows : List Noted). PrintsNotes layout rows old last) (sym (code_step frame at c.loop-at.left b (omega arith) none refl))
-    (new, note, subst (λ (n : ℕ). PrintsNotes layout (frame_notes (at + 1) n (drop (at + 1) frame)) new last) size h))
+    c.loop-at.invariant final
+    (subst (λ (rows : List Noted). PrintsNotes layout rows old final) (sym (code_step frame at c.loop-at.left b (omega arith) none refl))
+    (new, note, subst (λ (n : ℕ). PrintsNotes layout (frame_notes (at + 1) n (drop (at + 1) frame)) new final) size h))
 
 pub returns-clause-printed : goal.returns-clause-printed
 returns-clause-printed g c =

@@ -1,4 +1,4 @@
--- Where the rows of the bytes that are left are printed, all rows are.
+-- For each final output: if the rows of the remaining bytes lead from the output so far to it, all rows lead from the first output to it.
 use Rattle.std.proofs.Common.{ℕ, List, Option, drop}
 use Rattle.pcard_explain.specs.Notes.{PrintsNotes, frame_notes}
 use Rattle.pcard_explain.proofs.codes.print_codes.Given as goal

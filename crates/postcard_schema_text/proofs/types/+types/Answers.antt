@@ -1,6 +1,7 @@
 -- The mutually recursive readers of types, each by the grammar. A part that is read is the only one there, and what is left of the text
 -- denotes what is left of the whole. If a part can't be read, no text of the whole begins here. The lemmas `LeftOf..` say what is left
 -- after each part.
+-- Signs are bytes: 38 is `&`, 40 `(`, 41 `)`, 44 `,`, 60 `<`, 91 `[`, 93 `]`, 123 `{`, 124 `|`.
 use Rattle.std.proofs.Common.{◌≡◌, ℕ, ◌+◌, ◌-◌, ◌<◌, ◌⊎◌, suc, true, false, List, [], ◌∷◌, ◌++◌, length, refl, sym, ap, subst, ◌∙◌, true≢false, arith, inl, inr}
 use Rattle.std.proofs.lemmas.Grind.{common_steps}
 use Rattle.std.proofs.lemmas.List.{length_push}

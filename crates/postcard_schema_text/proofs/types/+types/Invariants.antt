@@ -1,4 +1,5 @@
 -- Why the functions end: by the depth that is left, and by their order at one depth. The invariants say what each loop has taken.
+-- Signs are bytes: 41 is `)`, 44 `,`, 124 `|`.
 use Rattle.std.proofs.Common.{ℕ, ◌+◌, ◌*◌, ◌-◌, ◌≤◌, List, length}
 use Rattle.postcard_schema.specs.declared.schema.Schema.{Schema}
 use Rattle.postcard_schema.specs.Meaning.{type_of}
