@@ -34,7 +34,7 @@ too_long shape v e own named willing prints = (
   buffer_full (inl (inr text)) = absurd (prints text.0)
   buffer_full (inr refused) = absurd (willing.has_none e refused)
 
--- The library's error is that memory is lacking, or else no value is there.
+-- The library's error is `OutOfMemory`, or no value is there.
 pub memory_or_none : (other : Error → Type 0) (none : Type 0) (e : Error) → IsReadError other e
     → (e ≢ OutOfMemory → none) → ((e ≡ OutOfMemory) × other OutOfMemory) ⊎ (IsReadError other e × none)
 memory_or_none other none OutOfMemory h f = inl (refl, h)

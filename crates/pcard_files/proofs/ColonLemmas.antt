@@ -16,7 +16,7 @@ StripsAt word r = MatchOption r (FindsCharPrefix 64 word None) (λ x. StripsPref
 abbrev pub SplitsAtColon : List ℕ → Option (Bor (List ℕ) × Bor (List ℕ)) → Type 0
 SplitsAtColon inner r = MatchOption r (RFindsChar 58 inner None) (λ x. SplitsAroundMatch (RFindsChar 58) inner x.0.now x.1.now)
 
--- What is behind the `@`.
+-- What is after the `@`.
 behind_at : (word : List ℕ) (r : Option (Bor (List ℕ))) (x : Bor (List ℕ)) → StripsAt word r → r ≡ Some x → word ≡ 64 ∷ x.now
 behind_at word r x strips is = rw is at (strip_prefix_char 64 word r strips (lit< tt))
 
@@ -26,7 +26,7 @@ without_at word r strips is file name (whole, free) =
     let none : (rest : List ℕ) → word ≡ 64 ∷ rest → ⊥ = rw is at (strip_prefix_char 64 word r strips (lit< tt)) in
     none (file ++ 58 ∷ name) whole
 
--- What is before the last colon and behind it.
+-- What is before the last colon and after it.
 split_last : (inner front back : List ℕ) → SplitsAroundMatch (RFindsChar 58) inner front back → IsNameWord (64 ∷ inner) front back
 split_last inner front back (i, j, (none, at), is_front, is_back, low, n, m) =
     let cut : drop i inner ≡ 58 ∷ drop j inner = drop_at_char 58 inner i j at (lit< tt) in

@@ -8,7 +8,7 @@ use Rattle.pcard_call.specs.Options.{Given}
 use Rattle.pcard_call.specs.Calls.{Words, IsCall}
 use Rattle.pcard_files.specs.Operands.{reads_bytes, NamesInput, IsOnlyCall}
 
--- What `strip_prefix` says of a word and what is behind its `@`.
+-- What `strip_prefix` says of a word and what is after its `@`.
 abbrev pub StripsAt : List ℕ → Option (Bor (List ℕ)) → Type 0
 StripsAt word r = MatchOption r (FindsCharPrefix 64 word None) (λ x. StripsPrefix (FindsCharPrefix 64) word x.now)
 

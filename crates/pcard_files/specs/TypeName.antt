@@ -20,7 +20,7 @@ Declares gives file name text = (content : List ℕ) × gives file content × Is
 abbrev pub IsWrong : List ℕ → List ℕ → FileError → Type 0
 IsWrong content name error = HasProblemOf content name error.problem × IsWithin content error × (error.problem ≢ Expression problems.OutOfMemory)
 
--- The name stands for no type, since the file can't be read, has too many bytes, is no text, or has no such type; or memory is lacking.
+-- The name stands for no type, since the file can't be read, has too many bytes, is no text, or has no such type; or memory runs out.
 abbrev pub IsFaultOf : (List ℕ → List ℕ → Type 0) → (List ℕ → Type 0) → List ℕ → List ℕ → TypeFault → Type 0
 IsFaultOf gives lacks file name Unreadable = lacks file
 IsFaultOf gives lacks file name TooLong = (content : List ℕ) × gives file content × (1048576 < length content)
@@ -28,7 +28,7 @@ IsFaultOf gives lacks file name NoText = (content : List ℕ) × gives file cont
 IsFaultOf gives lacks file name (Wrong error) = (content : List ℕ) × gives file content × IsWrong content name error
 IsFaultOf gives lacks file name OutOfMemory = ⊤
 
--- The fault is that of the error: memory is lacking, or the file is wrong.
+-- The fault is that of the error: memory ran out, or the file is wrong.
 abbrev pub IsFaultBy : FileError → TypeFault → Type 0
 IsFaultBy error (Wrong wrong) = (wrong ≡ error) × (error.problem ≢ Expression problems.OutOfMemory)
 IsFaultBy error OutOfMemory = error.problem ≡ Expression problems.OutOfMemory

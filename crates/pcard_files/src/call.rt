@@ -22,7 +22,7 @@ const UNWRITTEN: u8 = 3;
 /// that the file declares with this name.
 ///
 /// If there is no such type, a line on `errors` says why, no input is read, and nothing is printed to
-/// `output`. The status is then 1 if memory is lacking, 3 if the line can't be written, and else 2.
+/// `output`. The status is then 1 if memory runs out, 3 if the line can't be written, and else 2.
 pub fn run<F: Files, R: Reader, W: Write, E: Write>(
     alloc: Global,
     words: &mut [String],

@@ -23,7 +23,7 @@ pub enum TypeFault {
 }
 
 impl TypeFault {
-    /// Returns the exit status of this fault: 1 if memory is lacking, and else 2.
+    /// Returns the exit status of this fault: 1 for out of memory, and else 2.
     pub fn status(&self) -> u8
         ensures { result ≡ fault_status self.now }
     {

@@ -36,7 +36,7 @@ pub trait Files {
         ensures lacking { IfErr result (λ e. e ≡ Failed → lacks self.now name.now) };
 
     /// Opens the file with this name. Reads nothing from it. Fails with `Failed` if it can't be
-    /// opened, and with `OutOfMemory` if memory is lacking. No file is open then.
+    /// opened, and with `OutOfMemory` if an allocation fails. No file is open then.
     fn open(&self, name: &str) -> Result<Self::Opened, ReadError>
         ensures given { IfOk result
             (λ opened. MayHave Self.Opened.remaining (gives self.now name.now) opened) }

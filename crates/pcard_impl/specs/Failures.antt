@@ -16,7 +16,7 @@ impl_failure_text NoHome = codes "write the file as CRATE/src/MODULE.rt"
 impl_failure_text NoText = codes "the file is not UTF-8"
 impl_failure_text (Wrong error) = impl_error_text error
 
--- The exit status of a failure: 1 if memory is lacking, and else 2.
+-- The exit status of a failure: 1 for out of memory, and else 2.
 abbrev pub file_problem_status : FileProblem → ℕ
 file_problem_status (Expression OutOfMemory) = 1
 file_problem_status problem = 2

@@ -2,7 +2,7 @@
 use Rattle.std.specs.Prelude.{◌≡◌, ◌⊎◌, ℕ, None, List, [], ◌++◌}
 use Rattle.std.specs.Str.Pattern.{FindsText, SplitsAroundMatch}
 
--- The mark stands in the text first behind `before`, and `after` is behind it.
+-- The mark stands in the text, first after `before`. The text `after` follows it.
 abbrev pub IsAround : List ℕ → List ℕ → List ℕ → List ℕ → Type 0
 IsAround mark text before after = SplitsAroundMatch (FindsText mark) text before after
 
@@ -10,7 +10,7 @@ IsAround mark text before after = SplitsAroundMatch (FindsText mark) text before
 abbrev pub Lacks : List ℕ → List ℕ → Type 0
 Lacks mark text = FindsText mark text None
 
--- The text of a file outside of its marks: the one before the first mark, and the one behind the second. Each mark is the first that stands
+-- The text of a file outside of its marks: the one before the first mark, and the one after the second. Each mark is the first that stands
 -- there. Of a file with neither, these are the whole text and nothing.
 abbrev pub IsOutside : List ℕ → List ℕ → List ℕ → List ℕ → List ℕ → Type 0
 IsOutside first second file before after =

@@ -36,7 +36,7 @@ impl fmt::Display for ImplFailure<'_> {
 }
 
 impl ImplFailure<'_> {
-    /// Returns the exit status of this failure: 1 if memory is lacking, and else 2.
+    /// Returns the exit status of this failure: 1 for out of memory, and else 2.
     fn status(&self) -> u8
         ensures { result ≡ impl_failure_status self.now }
     {
@@ -47,7 +47,7 @@ impl ImplFailure<'_> {
     }
 }
 
-/// Returns the exit status of a problem: 1 if memory is lacking, and else 2.
+/// Returns the exit status of a problem: 1 for out of memory, and else 2.
 fn status_of(problem: ImplProblem) -> u8
     ensures { result ≡ impl_problem_status problem }
 {

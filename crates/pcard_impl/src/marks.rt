@@ -10,7 +10,7 @@ use std::alloc::{AllocError, Global};
 pub const BEGIN: &str =
     "\n// pcard impl: the impls of the types of this file. Don't edit them: run it again.\n";
 
-/// The line behind what is generated.
+/// The line after what is generated.
 pub const END: &str = "// pcard impl: the end of the impls.\n";
 
 /// The text of a file outside of its marks.
@@ -18,7 +18,7 @@ pub const END: &str = "// pcard impl: the end of the impls.\n";
 pub struct Outside<'a> {
     /// What stands before the first mark; of a file without marks, all.
     pub before: &'a str,
-    /// What stands behind the second mark.
+    /// What stands after the second mark.
     pub after: &'a str,
 }
 

@@ -5,8 +5,8 @@ use std::alloc::{AllocError, Global};
 
 /// A text that others are added to, which keeps its failure for the end.
 ///
-/// To add has no result. Where memory lacks, the text that was to be added is left out, and all that
-/// follow it, and [`finish`](Text::finish) fails.
+/// Adding returns nothing. If an allocation fails, that text and all later ones are left out, and
+/// [`finish`](Text::finish) fails.
 #[derive(Drop)]
 pub(crate) struct Text {
     /// What was added, up to the first failure.
@@ -49,8 +49,7 @@ impl Text {
         }
     }
 
-    /// Returns all that was added. Fails with `OutOfMemory` if memory lacked for a text that was to
-    /// be added.
+    /// Returns all that was added. Fails with `OutOfMemory` if an allocation failed.
     pub(crate) fn finish(self) -> Result<String, ImplProblemAt> {
         self.outcome?;
         Ok(self.added)

@@ -19,7 +19,7 @@ from_more P first index last next here later k low high = elim (first_or_later f
   | inr after ↦ later k (omega arith) high
 ]
 
--- No discriminant that ends at an index goes on behind it if none begins there.
+-- No discriminant that ends at an index goes on after it if none begins there.
 pub none_goes_on : (tokens : List Token) (first index last : ℕ) → first + 1 ≡ index → first ≤ last → EndsDiscriminant tokens first
     → ((k : ℕ) → index ≤ k → k ≤ last → IsSign 1 (codes "=") tokens k → ⊥) → Decides false (IsDiscriminant tokens last)
 none_goes_on tokens first index last next within ends none = (

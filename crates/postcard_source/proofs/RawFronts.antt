@@ -19,7 +19,7 @@ no_quote word after text run quoted hashes inner (pass, ends, whole) (all, stops
     let same = one_run is_hash run hashes quoted (34 ∷ inner) all all' stops stops' (sym runs ∙ sym both.1 ∙ runs') in
     unquoted inner same.1
 
--- A front of a text, behind another one.
+-- The first bytes of a text, after other bytes.
 front_more : (text front middle rest : List ℕ) → text ≡ front ++ middle → ((next : List ℕ) × (middle ≡ next ++ rest)) → (whole : List ℕ) × (text ≡ whole ++ rest)
 front_more text front middle rest e (next, f) = (front ++ next, e ∙ ap (λ t. front ++ t) f ∙ sym (append_assoc front next rest))
 

@@ -77,7 +77,7 @@ token_shorter token text rest (inl (opens, raw)) = raw_shorter token text rest r
 token_shorter token text rest (inr (no_raw, inl ((pass, ends, whole), filled))) = let h = behind text token rest whole in omega (arith, h, filled)
 token_shorter token text rest (inr (no_raw, inr (no_word, other))) = other_shorter token text rest other
 
--- A bracket is behind the index at which it is looked for.
+-- A bracket is after the index at which it is looked for.
 pub bracket_further : (tokens : List Token) (i b j : ℕ) → HasBracket tokens i b → EndsBefore tokens b j → i < j
 bracket_further tokens i b j (inl (hash, inl (opens, is))) (opening, closing, last, low, end, is_o, is_c, out, deeper) = omega arith
 bracket_further tokens i b j (inl (hash, inr (mark, opens, is))) (opening, closing, last, low, end, is_o, is_c, out, deeper) = omega arith

@@ -30,7 +30,7 @@ pub counted_more : (tokens : List Token) (known : List Declaration) (d : Declara
 counted_more tokens known d i n m counts (inl (none, one)) = one_word d i (i + 1) n (n + m) counts none refl (ap (λ k. n + k) one)
 counted_more tokens known d i n m counts (inr (e, refers, all)) = all_words d e i (i + 1) n m (n + m) counts refers all refl refl
 
--- More words are behind those before a token of which more are.
+-- If more words come after a token, more come after those before it.
 more_at : (tokens : List Token) (known : List Declaration) (d : Declaration) (i n m : ℕ) → Counts tokens known d i n → i < d.end → HasMoreAt tokens known d i m → HasMore tokens known d (n + m)
 more_at tokens known d i n m counts inside (inl (none, zero)) = let e : n ≡ n + m = omega arith in subst (HasMore tokens known d) e (own_word d i n counts inside none)
 more_at tokens known d i n m counts inside (inr (e, refers, more)) = inner_word d e i n m (n + m) counts inside refers more refl

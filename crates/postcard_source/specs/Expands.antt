@@ -82,7 +82,7 @@ pub data Counts (tokens : List Token) (known : List Declaration) : Declaration �
   all_words : (d e : Declaration) (i j n m k : ℕ) → Counts tokens known d i n → Refers tokens known d i e → Counts tokens known e e.end m
       → j ≡ i + 1 → k ≡ n + m → Counts tokens known d j k
 
--- What d stands for has a word behind this number of words.
+-- What d stands for has a word after this number of words.
 pub data HasMore (tokens : List Token) (known : List Declaration) : Declaration → ℕ → Type 0 where
   own_word : (d : Declaration) (i n : ℕ) → Counts tokens known d i n → i < d.end → ((e : Declaration) → Refers tokens known d i e → ⊥) → HasMore tokens known d n
   inner_word : (d e : Declaration) (i n m k : ℕ) → Counts tokens known d i n → i < d.end → Refers tokens known d i e → HasMore tokens known e m
@@ -92,7 +92,7 @@ pub data HasMore (tokens : List Token) (known : List Declaration) : Declaration 
 abbrev pub CountsAt : List Token → List Declaration → Declaration → ℕ → ℕ → Type 0
 CountsAt tokens known d i n = (((e : Declaration) → Refers tokens known d i e → ⊥) × (n ≡ 1)) ⊎ ((e : Declaration) × Refers tokens known d i e × Counts tokens known e e.end n)
 
--- What the token at index i of d stands for has a word behind this number of words.
+-- What the token at index i of d stands for has a word after this number of words.
 abbrev pub HasMoreAt : List Token → List Declaration → Declaration → ℕ → ℕ → Type 0
 HasMoreAt tokens known d i n = (((e : Declaration) → Refers tokens known d i e → ⊥) × (n ≡ 0)) ⊎ ((e : Declaration) × Refers tokens known d i e × HasMore tokens known e n)
 

@@ -13,7 +13,7 @@ use Rattle.postcard_source.specs.Expands.{IsSpelledBy, HasProblem}
 use Rattle.postcard_source.specs.Places.{IsPlace}
 use Rattle.postcard_source.specs.Printed.{is_of_type}
 
--- The file's tokens, but for those that are passed over, and its declarations.
+-- The file's tokens without those that are passed over, and its declarations.
 abbrev pub IsFileOf : List ℕ → List Token → List Declaration → Type 0
 IsFileOf file kept known = ((tokens : List Token) × IsRead file tokens × AreKept tokens kept) × AreDeclarations kept known
 

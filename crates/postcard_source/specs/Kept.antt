@@ -25,7 +25,7 @@ HasBracket tokens i b =
     (IsAt (codes "#") tokens i × IsAttribute tokens (i + 1) b)
     ⊎ (IsAt (codes "pub") tokens i × IsScope tokens (i + 1) × (b ≡ i + 1))
 
--- The bracket at index i ends before index j: the tokens between them are within it, but for the last one.
+-- The bracket at index i ends before index j: the tokens between them, without the last one, are within it.
 abbrev pub EndsBefore : List Token → ℕ → ℕ → Type 0
 EndsBefore tokens i j = (opening : Token) × (closing : Token) × (last : ℕ) × (i < last) × (j ≡ last + 1)
     × (slice_get tokens i ≡ Some opening) × (slice_get tokens last ≡ Some closing) × (closing.depth ≤ opening.depth)

@@ -44,7 +44,7 @@ IsLiteral quote token text rest = (inner : List ℕ) × (text ≡ quote ∷ inne
 abbrev pub BeginsBy : ℕ → List ℕ → Type 0
 BeginsBy b text = (rest : List ℕ) × (text ≡ b ∷ rest)
 
--- The text begins with a lifetime, behind whose name no quote is, and the comma behind it if there is one, and `rest` is left.
+-- The text begins with a lifetime, after whose name no quote is, and the comma after it if there is one, and `rest` is left.
 unfoldable pub IsLifetime : List ℕ → List ℕ → Type 0
 IsLifetime text rest = (inner : List ℕ) × (name : List ℕ) × (after : List ℕ) × (text ≡ 39 ∷ inner) × IsWordFront name inner after × (0 < length name)
     × (BeginsBy 39 after → ⊥) × Where (BeginsBy 44 after) (after ≡ 44 ∷ rest) (rest ≡ after)

@@ -34,7 +34,7 @@ file_problem_text (problems.Expression problem) = problem_text problem
 abbrev pub file_error_text : FileError → List ℕ
 file_error_text e = codes "line " ++ decimal e.line ++ codes ", column " ++ decimal e.column ++ codes ": " ++ file_problem_text e.problem
 
--- The problem is none of a type: memory is lacking.
+-- The problem isn't the type: memory ran out.
 abbrev pub is_limit : Problem → Bool
 is_limit OutOfMemory = true
 is_limit problem = false

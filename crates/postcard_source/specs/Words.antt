@@ -9,7 +9,7 @@ use Rattle.postcard_source.specs.Tokens.{Says, IsAt, IsBefore}
 abbrev pub Where : Type 0 → Type 0 → Type 0 → Type 0
 Where P A B = (P × A) ⊎ ((P → ⊥) × B)
 
--- This sign is at index i, with so many brackets around it.
+-- This sign is at index i, with this number of brackets around it.
 abbrev pub IsSign : ℕ → List ℕ → List Token → ℕ → Type 0
 IsSign depth sign tokens i = (t : Token) × (slice_get tokens i ≡ Some t) × (t.depth ≡ depth) × Says sign t
 
@@ -20,11 +20,11 @@ IsPlainText tokens i text =
     (Where (IsAt (codes "}") tokens i × IsBefore (codes "{") tokens i) (text ≡ codes ")")
     ((t : Token) × (slice_get tokens i ≡ Some t) × (text ≡ t.text.now)))
 
--- The token is the comma after the last of some fields in `(` and `)`, which have so many brackets around them.
+-- The token is the comma after the last of some fields in `(` and `)`, which have this number of brackets around them.
 abbrev pub IsLastComma : ℕ → List Token → ℕ → Type 0
 IsLastComma depth tokens i = IsSign depth (codes ",") tokens i × IsAt (codes ")") tokens (i + 1) × (IsBefore (codes "(") tokens i → ⊥)
 
--- Of a struct, `;` stands for nothing behind `)`, and otherwise for `()`. A comma after the last field stands for nothing.
+-- Of a struct, `;` stands for nothing after `)`, and otherwise for `()`. A comma after the last field stands for nothing.
 abbrev pub IsStructText : List Token → ℕ → List ℕ → Type 0
 IsStructText tokens i text =
     Where (IsSign 0 (codes ";") tokens i)
@@ -47,7 +47,7 @@ EndsDiscriminant tokens i = ((t : Token) × (slice_get tokens i ≡ Some t) × (
 abbrev pub IsDiscriminant : List Token → ℕ → Type 0
 IsDiscriminant tokens i = (j : ℕ) × (j ≤ i) × IsSign 1 (codes "=") tokens j × ((k : ℕ) → j ≤ k → k ≤ i → EndsDiscriminant tokens k → ⊥)
 
--- Of an enum, `{` stands for `(|`, `}` for `)`, and a comma between two variants for `|`. For nothing stand a comma behind the last variant
+-- Of an enum, `{` stands for `(|`, `}` for `)`, and a comma between two variants for `|`. For nothing stand a comma after the last variant
 -- or the last field of a variant, and the discriminant of a variant.
 abbrev pub IsEnumText : List Token → ℕ → List ℕ → Type 0
 IsEnumText tokens i text =

@@ -35,7 +35,7 @@ pub fn check_body(tokens: &[Token], declaration: &Declaration) -> Result<(), Pro
     })
 }
 
-/// Returns whether a type may begin with the first token behind the name of a declaration: whether it is
+/// Returns whether a type may begin with the first token after the name of a declaration: whether it is
 /// no name, and stands for a text that begins with `(` or `{`.
 fn begins_type(tokens: &[Token], declaration: &Declaration) -> bool
     ensures { result ≡ true → BeginsType tokens.now declaration.now }

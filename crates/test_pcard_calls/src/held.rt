@@ -57,7 +57,7 @@ impl Reader for Open {
 }
 
 /// Files that a test has. To be opened there are `frames.bin`, `broken.bin`, of which just one read succeeds,
-/// and `dead.bin`, of which none does, each with the bytes of [`FRAMES`]; for `full.bin` memory is lacking.
+/// and `dead.bin`, of which none does, each with the bytes of [`FRAMES`]; reading `full.bin` runs out of memory.
 #[derive(Clone, Copy)]
 pub struct Held;
 
@@ -95,7 +95,7 @@ impl Files for Held {
 }
 
 /// Returns the bytes of a file: of `types.rs`, `a:b.rs`, `latin1.rs`, which is no UTF-8, or
-/// `longest.rs` and `long.rs`, of which the second is one byte too long. For `full.rs` memory is lacking.
+/// `longest.rs` and `long.rs`, of which the second is one byte too long. Reading `full.rs` runs out of memory.
 fn content_of(alloc: Global, name: &str) -> Result<Vec<u8>, ReadError> {
     match name {
         "types.rs" => padded(alloc, TYPES.as_bytes(), 0),
