@@ -42,7 +42,7 @@ pub use Rattle.pcard_calls.specs.Named.{PrintsNamedDecode, form_of, list_of, one
 pub use Rattle.pcard_calls.specs.Names.{IsWordOf, begins_expression, looks_like_expression}
 pub use Rattle.pcard_calls.specs.Names.{name_of}
 pub use Rattle.pcard_calls.specs.Requests.{IsNoCall, IsRequest, IsTypeWord, IsWhyNoCall}
-pub use Rattle.pcard_calls.specs.Requests.{first_word, has_colon, is_string, no_call_text}
+pub use Rattle.pcard_calls.specs.Requests.{first_word, has_colon, is_bare, is_string, no_call_text}
 pub use Rattle.pcard_calls.specs.Requests.{second_word, takes_name}
 pub use Rattle.pcard_calls.specs.Size.{PrintsSize, SizeFails, bounded_text, endless_text}
 pub use Rattle.pcard_calls.specs.Size.{first_text, least_number, others_text, parts_text}

@@ -1,5 +1,5 @@
 -- Which words are a request, and why others are none.
-use Rattle.std.specs.Prelude.{◌≡◌, ℕ, nat_eq, Bool, true, false, if◌then◌else◌, List, [], ◌∷◌, ◌++◌, codes}
+use Rattle.std.specs.Prelude.{◌≡◌, ◌||◌, ℕ, nat_eq, Bool, true, false, if◌then◌else◌, List, [], ◌∷◌, ◌++◌, codes}
 use Rattle.std.specs.List.{list_any}
 use lib.Pointwise.{pointwise}
 use Rattle.pcard_call.specs.Calls.{IsCall, IsMisuse}
@@ -57,11 +57,16 @@ is_string word = pointwise nat_eq word (codes "String")
 abbrev pub has_colon : List ℕ → Bool
 has_colon word = list_any (λ b. nat_eq b 58) word
 
+-- The word is a type only within an expression, as in `(usize)`.
+abbrev pub is_bare : List ℕ → Bool
+is_bare word = pointwise nat_eq word (codes "usize") || (pointwise nat_eq word (codes "isize") || pointwise nat_eq word (codes "bytes"))
+
 -- What would do in the place of a word that is no type.
 abbrev pub hint_text : List ℕ → List ℕ
 hint_text word =
     if is_string word then codes "; a string is str" else
-    if has_colon word then codes "; a type in a file is @" ++ word else codes "; pcard types prints how a type is written"
+    if has_colon word then codes "; a type in a file is @" ++ word else
+    if is_bare word then codes "; write (" ++ (word ++ codes ")") else codes "; pcard types prints how a type is written"
 
 -- The line that says why words are no call.
 abbrev pub no_call_text : NoCall → List ℕ

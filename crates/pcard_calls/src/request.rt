@@ -3,8 +3,8 @@
 ghost use Rattle.std.specs.Prelude.{◌≡◌, IfErr, IfNone, IfOk, IfSome, OnErr, Some, map};
 ghost use Rattle.std.specs.Prelude.{string_bytes};
 ghost use Rattle.pcard_calls.specs.{IsNoCall, IsRequest, IsTypeWord, IsWhyNoCall, TypeWord};
-ghost use Rattle.pcard_calls.specs.{first_word, given_of, has_colon, is_string, no_call_text};
-ghost use Rattle.pcard_calls.specs.{second_word, takes_name};
+ghost use Rattle.pcard_calls.specs.{first_word, given_of, has_colon, is_bare, is_string};
+ghost use Rattle.pcard_calls.specs.{no_call_text, second_word, takes_name};
 
 use crate::names::TypeWord;
 use pcard_call::{Call, Misuse, Verb};
@@ -39,6 +39,9 @@ impl fmt::Display for NoCall<'_> {
             }
             NoCall::UnknownType(word) if has_colon(word) => {
                 write!(f, "unknown type {word}; a type in a file is @{word}")
+            }
+            NoCall::UnknownType(word) if is_bare(word) => {
+                write!(f, "unknown type {word}; write ({word})")
             }
             NoCall::UnknownType(word) => write!(
                 f,
@@ -92,6 +95,13 @@ fn is_string(word: &str) -> bool
     ensures { result ≡ is_string word.now }
 {
     word == "String"
+}
+
+/// Returns whether the word is a type only within an expression.
+fn is_bare(word: &str) -> bool
+    ensures { result ≡ is_bare word.now }
+{
+    word == "usize" || word == "isize" || word == "bytes"
 }
 
 fn has_colon(word: &str) -> bool
