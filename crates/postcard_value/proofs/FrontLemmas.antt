@@ -5,15 +5,13 @@ use Rattle.std.specs.declared.alloc.Global.{Global}
 use Rattle.std.proofs.lemmas.List.{take_more}
 use Rattle.postcard_wire.specs.Number.{SpellsNum}
 use Rattle.postcard_wire.specs.Tree.{Tree, Trees, Num, Present, Seq, Group, Variant, NoTrees, Then, count}
-use Rattle.postcard_wire.specs.Spelling.{Spells, SpellsAll}
 use Rattle.postcard_wire.specs.Reading.{Each, IsNum}
 use Rattle.postcard_shape.specs.Leaves.{num_same}
 use Rattle.postcard_schema.specs.declared.schema.Named.{Named}
-use Rattle.postcard_schema.specs.declared.schema.Schema.{Schema}
 use Rattle.postcard_schema.specs.declared.schema.Schema.TheVariants as schemas
 use Rattle.postcard_schema.specs.Bounds.{depth, greatest_depth}
 use Rattle.postcard_schema.specs.Lemmas.{content_at, type_of_array, type_of_enum, type_of_map, type_of_option, type_of_seq, type_of_struct, type_of_tuple}
-use Rattle.postcard_schema.specs.Meaning.{MessageType, contents, entry_of, type_of, types_of, reads, reads_all, reads_at}
+use Rattle.postcard_value.specs.{MessageType, Schema, Spells, SpellsAll, contents, entry_of, reads, reads_all, reads_at, type_of, types_of}
 use Rattle.postcard_value.specs.Fronts.{FrontSpells, HasNoFront, HasNoRow, SpellsEach, SpellsParts}
 
 -- ---- rows of trees
@@ -178,16 +176,3 @@ pub variant_depth : (s : Schema) (variants : Vec (Named Schema) Global) (i : ℕ
     → i < length variants.items
     → x ≡ get_or variants.items i x → depth (type_of x.content) < depth (type_of s)
 variant_depth s variants i x is low found = rw (is, type_of_enum variants) (omega (arith, greatest_content variants.items i x low found))
-
-pub option_depth : (s : Schema) (b : Box Schema Global) → s ≡ schemas.Option b → depth (type_of b.value) < depth (type_of s)
-option_depth s b is = rw (is, type_of_option b) (omega arith)
-
-pub list_depth : (s : Schema) (b : Box Schema Global) → s ≡ schemas.Seq b → depth (type_of b.value) < depth (type_of s)
-list_depth s b is = rw (is, type_of_seq b) (omega arith)
-
-pub array_depth : (s : Schema) (b : Box Schema Global) (n : ℕ) → s ≡ schemas.Array b n → depth (type_of b.value) < depth (type_of s)
-array_depth s b n is = rw (is, type_of_array b n) (omega arith)
-
-pub entry_depth : (s : Schema) (k v : Box Schema Global) → s ≡ schemas.Map k v
-    → (depth (type_of k.value) < depth (type_of s)) × (depth (type_of v.value) < depth (type_of s))
-entry_depth s k v is = rw (is, type_of_map k v) (omega arith, omega arith)

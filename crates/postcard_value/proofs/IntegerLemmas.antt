@@ -6,7 +6,6 @@ use mir.Val.{bits, hbits, SFits}
 use Rattle.postcard_wire.specs.Number.{InRange}
 use Rattle.postcard_wire.specs.Tree.{Num, Int}
 use Rattle.postcard_wire.specs.Reading.{IsNum, IsInt}
-use Rattle.postcard_wire.specs.Spelling.{Spells}
 use Rattle.postcard_de_flavors.specs.Source.{Left}
 use Rattle.postcard_shape.specs.Leaves.{num_same, int_same}
 use Rattle.postcard_shape.specs.Shape.{never}
@@ -14,7 +13,7 @@ use Rattle.postcard_fixint.specs.Fixed.{twos_complement}
 use Rattle.postcard_de_nodes.specs.Reads.{ReadsFrom}
 use Rattle.postcard_de_nodes.specs.SeenLemmas.{seen_as}
 use Rattle.postcard_schema.specs.declared.leaf.Integer.{Integer}
-use Rattle.postcard_schema.specs.Leaves.{size_of}
+use Rattle.postcard_value.specs.{Spells, size_of}
 use Rattle.postcard_value.specs.Numbers.{IsInteger, integer_tree, signed_of}
 use Rattle.postcard_value.specs.NumberLemmas.{number_of_bits}
 

@@ -7,14 +7,12 @@ use Rattle.postcard_wire.specs.declared.error.Error.TheVariants.{OutOfMemory}
 use Rattle.postcard_wire.specs.Number.{SpellsNum}
 use Rattle.postcard_wire.specs.Tree.{Tree, Trees, Byte, Num, Group, NoTrees, Then, trees, count}
 use Rattle.postcard_wire.specs.Tree as nodes
-use Rattle.postcard_wire.specs.Spelling.{Spells, SpellsAll}
 use Rattle.postcard_wire.specs.Reading.{IsByte, IsNum, IsOption, IsArray, Each}
 use Rattle.postcard_de_flavors.specs.Source.{Left, CanTake, Takes, Laws}
 use Rattle.postcard_shape.specs.Base256.{AreBytes}
 use Rattle.postcard_shape.specs.Leaves.{Same, byte_same, num_same}
 use Rattle.postcard_shape.specs.Lists.{EachIs}
 use Rattle.postcard_shape.specs.Shape.{never, memory}
-use Rattle.postcard_fixint.specs.Fixed.{IsFixed, unsigned}
 use Rattle.postcard_de_nodes.specs.ErrorLemmas.{wider}
 use Rattle.postcard_de_nodes.specs.NumberLemmas.{Below}
 use Rattle.postcard_de_nodes.specs.ReadLemmas.{refusal, is_refusal, out_of_memory}
@@ -22,9 +20,7 @@ use Rattle.postcard_de_nodes.specs.Reads.{ReadsFrom}
 use Rattle.postcard_de_nodes.specs.SeenLemmas.{recast, refused_too}
 use Rattle.postcard_de_nodes.specs.TakeLemmas.{can_first}
 use Rattle.postcard_schema.specs.declared.leaf.ByteOrder.{ByteOrder}
-use Rattle.postcard_value.specs.declared.value.Value.{Value}
-use Rattle.postcard_value.specs.Numbers.{order_of, fixed_tree}
-use Rattle.postcard_value.specs.Tree.{IsTree, AreTrees}
+use Rattle.postcard_value.specs.{AreTrees, IsFixed, IsTree, Spells, SpellsAll, Value, fixed_tree, order_of, unsigned}
 use Rattle.postcard_value.proofs.Rows.{each_tree}
 
 -- ---- bytes of a number

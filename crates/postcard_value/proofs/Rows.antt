@@ -3,11 +3,8 @@ use Rattle.std.proofs.Common.{◌≡◌, ℕ, ◌+◌, ◌<◌, List, [], ◌∷
 use Rattle.std.proofs.lemmas.List.{drop_more}
 use Rattle.postcard_wire.specs.declared.error.Error.{Error}
 use Rattle.postcard_wire.specs.Tree.{Tree, Trees, Seq, Group, NoTrees, Then, trees}
-use Rattle.postcard_wire.specs.Spelling.{Spells, SpellsAll}
-use Rattle.postcard_wire.specs.Reading.{IsGroup}
 use Rattle.postcard_de_flavors.specs.Source.{Left, Laws}
 use Rattle.postcard_shape.specs.Lists.{EachIs, ListIs, AreRead}
-use Rattle.postcard_shape.specs.Shape.{memory}
 use Rattle.postcard_de.proofs.Lists.{prefixed}
 use Rattle.postcard_de.proofs.Parts.{part_and_rest}
 use Rattle.postcard_de_nodes.specs.Reads.{ReadsFrom}
@@ -15,10 +12,8 @@ use Rattle.postcard_de_nodes.specs.CompoundLemmas.{Compound, first_refused, seco
 use Rattle.postcard_de_nodes.specs.ReadLemmas.{refusal}
 use Rattle.postcard_de_nodes.specs.TakeLemmas.{nothing_taken}
 use Rattle.postcard_schema.specs.declared.schema.Named.{Named}
-use Rattle.postcard_schema.specs.declared.schema.Schema.{Schema}
 use Rattle.postcard_schema.specs.Meaning.{MessageType, contents, entry_of, no_types, reads, reads_all, then_type, type_of, types_of}
-use Rattle.postcard_value.specs.declared.value.Value.{Value}
-use Rattle.postcard_value.specs.Tree.{tree, IsTree}
+use Rattle.postcard_value.specs.{IsGroup, IsTree, Schema, Spells, SpellsAll, Value, memory, tree}
 
 -- ---- the trees of a list
 
