@@ -10,7 +10,8 @@ use Rattle.postcard_shape.specs.Leaves.{num_same}
 use Rattle.postcard_schema.specs.declared.schema.Named.{Named}
 use Rattle.postcard_schema.specs.declared.schema.Schema.TheVariants as schemas
 use Rattle.postcard_schema.specs.Bounds.{depth, greatest_depth}
-use Rattle.postcard_schema.specs.Lemmas.{content_at, type_of_array, type_of_enum, type_of_map, type_of_option, type_of_seq, type_of_struct, type_of_tuple}
+use Rattle.postcard_schema.specs.Lemmas.{content_at, type_of_array, type_of_enum, type_of_option, type_of_struct, type_of_tuple}
+use Rattle.postcard_schema.specs.Meaning.{group, seq}
 use Rattle.postcard_value.specs.{MessageType, Schema, Spells, SpellsAll, contents, entry_of, reads, reads_all, reads_at, type_of, types_of}
 use Rattle.postcard_value.specs.Fronts.{FrontSpells, HasNoFront, HasNoRow, SpellsEach, SpellsParts}
 
@@ -107,19 +108,12 @@ option_none s content bytes rest is cut none = λ front after here f.
       (1 ∷ [], front, refl, f.2, refl),
     ))
 
--- If no prefix encodes the list, no prefix after its count encodes the elements.
-pub list_none : (s : Schema) (element : Box Schema Global) (bytes count rest : List ℕ) (n : ℕ) → s ≡ schemas.Seq element → bytes ≡ count ++ rest
-    → n < 2 ^ 64 → SpellsNum 64 n count → HasNoFront s bytes → HasNoRow (type_of element.value) n rest
-list_none s element bytes count rest n is cut low num none front after here (ts, (size, each), f) =
+-- If no prefix encodes the list, no prefix after its count encodes the elements. A map is a list of entries.
+pub list_none : (s : Schema) (t : MessageType) (bytes count rest : List ℕ) (n : ℕ) → type_of s ≡ seq t → bytes ≡ count ++ rest → n < 2 ^ 64
+    → SpellsNum 64 n count → HasNoFront s bytes → HasNoRow t n rest
+list_none s t bytes count rest n is cut low num none front after here (ts, (size, each), f) =
     none (count ++ front) after (cut ∙ ap (λ x. count ++ x) here ∙ sym (append_assoc count front after))
-    (rw (is, type_of_seq element) (Seq ts, (ts, refl, rw size low, each), (count, front, rw size num, f, refl)))
-
--- If no prefix encodes the map, no prefix after its count encodes the entries.
-pub map_none : (s : Schema) (k v : Box Schema Global) (bytes count rest : List ℕ) (n : ℕ) → s ≡ schemas.Map k v → bytes ≡ count ++ rest
-    → n < 2 ^ 64 → SpellsNum 64 n count → HasNoFront s bytes → HasNoRow (entry_of (type_of k.value) (type_of v.value)) n rest
-map_none s k v bytes count rest n is cut low num none front after here (ts, (size, each), f) =
-    none (count ++ front) after (cut ∙ ap (λ x. count ++ x) here ∙ sym (append_assoc count front after))
-    (rw (is, type_of_map k v) (Seq ts, (ts, refl, rw size low, each), (count, front, rw size num, f, refl)))
+    (subst (λ u. FrontSpells u (count ++ front)) (sym is) (Seq ts, (ts, refl, rw size low, each), (count, front, rw size num, f, refl)))
 
 -- If no prefix encodes the array, none encodes its elements.
 pub array_none : (s : Schema) (element : Box Schema Global) (bytes : List ℕ) (n : ℕ) → s ≡ schemas.Array element n → HasNoFront s bytes
@@ -127,16 +121,11 @@ pub array_none : (s : Schema) (element : Box Schema Global) (bytes : List ℕ) (
 array_none s element bytes n is none = λ front rest cut r.
     none front rest cut (rw (is, type_of_array element n) (Group r.0, (r.0, refl, r.1.0, r.1.1), r.2))
 
--- If a prefix encodes all parts in a row, it encodes the tuple.
-pub tuple_none : (s : Schema) (parts : Vec Schema Global) (bytes front rest : List ℕ) → s ≡ schemas.Tuple parts → bytes ≡ front ++ rest
-    → SpellsParts parts.items front
-    → HasNoFront s bytes → ⊥
-tuple_none s parts bytes front rest is cut (ts, r, f) none = none front rest cut (rw (is, type_of_tuple parts) (Group ts, (ts, refl, r), f))
-
--- If a prefix encodes all fields in a row, it encodes the struct.
-pub struct_none : (s : Schema) (fields : Vec (Named Schema) Global) (bytes front rest : List ℕ) → s ≡ schemas.Struct fields → bytes ≡ front ++ rest
-    → SpellsParts (contents fields.items) front → HasNoFront s bytes → ⊥
-struct_none s fields bytes front rest is cut (ts, r, f) none = none front rest cut (rw (is, type_of_struct fields) (Group ts, (ts, refl, r), f))
+-- If a prefix encodes all parts in a row, or all fields, it encodes the tuple or the struct.
+pub parts_none : (s : Schema) (ss : List Schema) (bytes front rest : List ℕ) → type_of s ≡ group (types_of ss) → bytes ≡ front ++ rest
+    → SpellsParts ss front → HasNoFront s bytes → ⊥
+parts_none s ss bytes front rest is cut (ts, r, f) none =
+    none front rest cut (subst (λ u. FrontSpells u front) (sym is) (Group ts, (ts, refl, r), f))
 
 -- If no prefix encodes the enum, no prefix after the variant's index encodes the variant's content.
 pub variant_none : (s : Schema) (variants : Vec (Named Schema) Global) (bytes index rest : List ℕ) (i : ℕ) (x : Named Schema)

@@ -6,9 +6,9 @@ use Rattle.std.specs.declared.alloc.Global.{Global}
 use Rattle.postcard_wire.specs.Number.{SpellsNum}
 use Rattle.postcard_schema.specs.declared.schema.Schema.TheVariants as schemas
 use Rattle.postcard_schema.specs.Lemmas.{type_of_array, type_of_map, type_of_seq}
-use Rattle.postcard_value.specs.{Element, HasNoFront, Part, Schema, Step}
+use Rattle.postcard_value.specs.{Element, HasNoFront, Part, Schema, Step, type_of}
 use Rattle.postcard_value.specs.Refused.{Entered, StopsAt, StopsHere, here, inside, Finds, FindsElement, FindsEntry, in_list, in_array, in_key, in_value}
-use Rattle.postcard_value.proofs.FrontLemmas.{list_none, map_none, array_none}
+use Rattle.postcard_value.proofs.FrontLemmas.{list_none, array_none}
 
 -- What was found among the elements was found in the list.
 pub list_finds : (s : Schema) (element : Box Schema Global) (bytes count rest : List ℕ) (n : ℕ) → s ≡ schemas.Seq element → bytes ≡ count ++ rest
@@ -16,7 +16,7 @@ pub list_finds : (s : Schema) (element : Box Schema Global) (bytes count rest : 
     → SpellsNum 64 n count → (old new : List Step) (found : Option (Bor Schema × Bor (List ℕ))) → FindsElement element.value n rest old new found
     → Finds s bytes old new found
 list_finds s element bytes count rest n is cut few num old new None (row, same) =
-    (λ none. absurd (row (list_none s element bytes count rest n is cut few num none)), same)
+    (λ none. absurd (row (list_none s _ bytes count rest n (ap type_of is ∙ type_of_seq element) cut few num none)), same)
 list_finds s element bytes count rest n is cut few num old new (Some part) (i, front, low, each, more, join, lack, own) =
     rw own (
       (
@@ -42,7 +42,7 @@ pub map_finds : (s : Schema) (k v : Box Schema Global) (bytes count rest : List 
     → SpellsNum 64 n count → (old new : List Step) (found : Option (Bor Schema × Bor (List ℕ))) → FindsEntry k.value v.value n rest old new found
     → Finds s bytes old new found
 map_finds s k v bytes count rest n is cut few num old new None (row, same) =
-    (λ none. absurd (row (map_none s k v bytes count rest n is cut few num none)), same)
+    (λ none. absurd (row (list_none s _ bytes count rest n (ap type_of is ∙ type_of_map k v) cut few num none)), same)
 map_finds s k v bytes count rest n is cut few num old new (Some part) (i, front, low, each, lack, inl (more, join, own)) =
     rw own (
       (

@@ -9,7 +9,8 @@ use Rattle.postcard_schema_text.specs.Phrases.{takes_two, takes_as, led_more, tr
 use Rattle.postcard_value_text.specs.Floats.{IsFloatWord, IsHexadecimal, SpellsFloat}
 use Rattle.postcard_value_text.specs.Quoted.{ArePieces, IsQuoted, IsByteString}
 use Rattle.postcard_value_text.specs.Spelled.{Phrase}
-use Rattle.postcard_value_text.proofs.FloatFronts.{number_first}
+use Rattle.postcard_value_text.proofs.FloatTexts.{float_scalars}
+use Rattle.postcard_value_text.proofs.Fronts.{scalar_trimmed}
 
 -- ---- words
 
@@ -69,8 +70,8 @@ bytes_trimmed bytes a b r trim (front, (digits, held, word), whole) =
 
 pub float_trimmed : (f : Format) (bits : ℕ) (a b r : List ℕ) → IsTrimAsciiStart a b → TakesPhrase (SpellsFloat f bits) a r → TakesPhrase (SpellsFloat f bits) b r
 float_trimmed f bits a b r trim (front, inl p, whole) =
-    let k = number_first f bits a r (front, p, whole) in
-    (k.word, inl ([], k.word, no_blanks, k.reads, refl), trim_is a b trim ∙ k.first)
+    takes_as (Led (IsFloatWord f bits)) (SpellsFloat f bits) b r (λ t k. inl k)
+    (scalar_trimmed (IsFloatWord f bits) a b r (float_scalars f bits) trim (front, p, whole))
 float_trimmed f bits a b r trim (front, inr p, whole) =
     let named = IsWord (codes "nan") in
     let Q : Phrase = Then (IsSign 40) (Then (IsHexadecimal bits) (IsSign 41)) in

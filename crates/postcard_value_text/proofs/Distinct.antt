@@ -2,8 +2,6 @@
 use Rattle.std.proofs.Common.{◌≡◌, ℕ, zero, suc, ◌<◌, List, [], ◌∷◌, length, codes, string_bytes, sym, ap, subst, ◌∙◌, arith, inl, inr}
 use Rattle.std.proofs.lemmas.List.Elements.{All-head, All-tail}
 use Rattle.postcard_schema.specs.declared.leaf.Leaf.TheVariants as leaves
-use Rattle.postcard_schema.specs.declared.schema.Named.{Named}
-use Rattle.postcard_schema.specs.declared.schema.Schema.{Schema}
 use Rattle.postcard_schema_text.specs.declared.angled.Holder.{Holder}
 use Rattle.postcard_schema_text.specs.declared.angled.Holder.TheVariants as holders
 use Rattle.postcard_schema_text.specs.declared.angled.Pair.{Pair}
@@ -13,9 +11,9 @@ use Rattle.postcard_schema_text.specs.declared.names.TypeName.TheVariants as nam
 use Rattle.postcard_schema_text.specs.Angled.{IsHolderOf, IsPairOf}
 use Rattle.postcard_schema_text.specs.Names.{HasOther, IsNewTo, NamesDiffer}
 use Rattle.postcard_schema_text.specs.Grammar.{Separated, IsListRest, IsTupleRest, IsField, IsFieldsRest, IsMapRest, IsWorded, IsPlain, IsBehind, IsReferred, IsOptions, IsContent, IsVariantText, IsEnumText, IsType, IsExpression}
+use Rattle.postcard_value_text.specs.{Named, Schema, fields_of, layout_of, layouts_of}
 use Rattle.postcard_value_text.specs.Accepted.{AreNamed, AreNotCalled, HasDistinctNames, HaveDistinctNames}
 use Rattle.postcard_value_text.specs.Accepted as texts
-use Rattle.postcard_value_text.specs.Layout.{layout_of, layouts_of, fields_of}
 use Rattle.postcard_value_text.proofs.Layouts.{layout_of_leaf, layout_of_option, layout_of_seq, layout_of_map, layout_of_array, layout_of_tuple, layout_of_struct, layout_of_enum}
 
 -- Each schema that T denotes has distinct names.

@@ -2,7 +2,7 @@
 -- Only one of them can stand at one place, and one text remains after it.
 use Rattle.std.proofs.Common.{◌≡◌, ◌≢◌, ℕ, ◌<◌, Bor, List, [], ◌∷◌, ◌++◌, length, refl, sym, ap, ◌∙◌, true≢false, arith, ◌⊎◌, inl, inr}
 use Rattle.std.specs.Prelude.{Option, Some, None, IfSome, IfNone, MatchOption}
-use Rattle.std.proofs.lemmas.List.{append_assoc}
+use Rattle.std.proofs.lemmas.List.{append_assoc, append_cancel_left}
 use Rattle.std.specs.Str.{IsTrimAsciiStart}
 use Rattle.postcard_schema_text.specs.Text.{is_of_word, TakesPhrase, IsSign, IsWord}
 use Rattle.postcard_schema_text.specs.FrontLemmas.{pass_head, takes_split, same_first, same_rest, sign_unblank, word_unblank, next_sign}
@@ -47,13 +47,9 @@ word_or_quote (x ∷ name) a r q some (front, (pass, led), whole) k =
     let same : x ≡ 34 = same_first (sym (word_unblank x name a r (front, (pass, led), whole)) ∙ sign_unblank 34 a s.0 refl s.1) in
     true≢false (sym (pass_head is_of_word x name pass) ∙ ap is_of_word same)
 
-cancel : (p x y : List ℕ) → p ++ x ≡ p ++ y → x ≡ y
-cancel [] x y e = e
-cancel (z ∷ p) x y e = cancel p x y (same_rest e)
-
 -- A text has one remaining text after the name and the quote.
 pub same_left : (name x y m : List ℕ) → m ≡ name ++ 34 ∷ x → m ≡ name ++ 34 ∷ y → x ≡ y
-same_left name x y m e f = same_rest (cancel name (34 ∷ x) (34 ∷ y) (sym e ∙ f))
+same_left name x y m e f = same_rest (append_cancel_left name (34 ∷ x) (34 ∷ y) (sym e ∙ f))
 
 -- The quote, the name and the quote.
 pub quoted_taken : (name a m r : List ℕ) → TakesPhrase (IsSign 34) a m → m ≡ name ++ 34 ∷ r → TakesPhrase (IsQuotedName name) a r
@@ -75,5 +71,5 @@ quote_found text name x (Some y) e m = e ∙ ap (λ t. name ++ t) m
 -- If no quote follows the name, the text doesn't begin with the name and a quote.
 pub quote_none : (text name x : List ℕ) (r : Option (Bor (List ℕ))) → text ≡ name ++ x → MatchOption r ((rest : List ℕ) → x ≢ (34 ∷ []) ++ rest) (λ y. x ≡ (34 ∷ []) ++ y.now)
     → IfNone r ((after : List ℕ) → text ≡ name ++ 34 ∷ after → ⊥)
-quote_none text name x None e m = λ after is. m after (cancel name x (34 ∷ after) (sym e ∙ is))
+quote_none text name x None e m = λ after is. m after (append_cancel_left name x (34 ∷ after) (sym e ∙ is))
 quote_none text name x (Some y) e m = tt

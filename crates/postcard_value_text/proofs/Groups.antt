@@ -7,24 +7,19 @@ use Rattle.std.proofs.Math.Dec.{eqb-suc-zero}
 use Rattle.postcard_wire.specs.Tree.{Tree, Trees, NoTrees, trees}
 use Rattle.postcard_wire.specs.Tree as nodes
 use Rattle.postcard_wire.specs.Reading.{IsEnd, IsGroup, IsThen}
-use Rattle.postcard_schema.specs.declared.schema.Named.{Named}
-use Rattle.postcard_schema.specs.declared.schema.Schema.{Schema}
-use Rattle.postcard_schema.specs.Meaning.{contents, reads, reads_all, type_of, types_of}
-use Rattle.postcard_schema_text.specs.Text.{Then, TakesPhrase, IsSign, IsMaybe}
 use Rattle.postcard_schema_text.specs.Fronts.{follows_type}
 use Rattle.postcard_schema_text.specs.FrontLemmas.{takes_split}
 use Rattle.postcard_schema_text.specs.Phrases.{takes_two}
 use Rattle.postcard_value.specs.declared.value.Value.{Value}
-use Rattle.postcard_value.specs.Tree.{tree}
+use Rattle.postcard_value_text.specs.{IsMaybe, IsSign, Named, Schema, TakesPhrase, Then, contents, fields_of, layout_of, layouts_of, reads, reads_all}
+use Rattle.postcard_value_text.specs.{tree, type_of, types_of}
 use Rattle.postcard_value_text.specs.declared.error.Stop.{Stop}
 use Rattle.postcard_value_text.specs.Accepted.{AreNamed, FollowsValue, HasDistinctNames, HaveDistinctNames, ReadsText, ReadsTree}
-use Rattle.postcard_value_text.specs.Layout.{fields_of, layout_of, layouts_of}
 use Rattle.postcard_value_text.specs.Spelled.{Phrase, Speller, IsFieldName, Row, Unless, are_none, AreClosed, AreEnclosed, SpellsEntry, SpellsField, SpellsGroup, SpellsTree, field_phrases, part_phrases}
-use Rattle.postcard_value_text.proofs.Fronts.{sign_follows}
+use Rattle.postcard_value_text.proofs.Fronts.{sign_follows, none_taken}
 use Rattle.postcard_value_text.proofs.Items.{row}
 use Rattle.postcard_value_text.proofs.Parts.{AllAre, ReadsParts, phrases_by}
 use Rattle.postcard_value_text.proofs.Readers.{Took, Misses, after_phrase, before_phrase, missed_after, phrase_missed, refused, refused_before, spelled_as, took_sign}
-use Rattle.postcard_value_text.proofs.Signs.{none_taken}
 
 -- ---- the brackets around parts
 

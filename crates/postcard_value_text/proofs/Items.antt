@@ -4,22 +4,19 @@ use Rattle.std.specs.Prelude.{Result, Ok, Err}
 use Rattle.std.specs.Char.{is_ascii_whitespace}
 use Rattle.postcard_wire.specs.Tree.{Tree, Trees, NoTrees, count, trees}
 use Rattle.postcard_wire.specs.Tree as nodes
-use Rattle.postcard_wire.specs.Reading.{Each, IsArray, IsSeq}
 use Rattle.postcard_ser.proofs.Elements.{elements_count}
-use Rattle.postcard_schema_text.specs.Text.{Then, TakesPhrase, IsSign, IsMaybe}
 use Rattle.postcard_schema_text.specs.Fronts.{follows_type, Starts}
 use Rattle.postcard_schema_text.specs.FrontLemmas.{takes_split, sign_unblank, not_empty}
 use Rattle.postcard_schema_text.specs.Phrases.{takes_two, takes_as}
 use Rattle.postcard_schema_text.proofs.Heads.{starts_not_by}
 use Rattle.postcard_value.specs.declared.value.Value.{Value}
-use Rattle.postcard_value.specs.Tree.{tree}
+use Rattle.postcard_value_text.specs.{Each, IsArray, IsMaybe, IsSeq, IsSign, TakesPhrase, Then, tree}
 use Rattle.postcard_value_text.specs.declared.error.Stop.{Stop}
 use Rattle.postcard_value_text.specs.Accepted.{FollowsValue, ReadsAs, ReadsText, ReadsTree}
 use Rattle.postcard_value_text.specs.Spelled.{Phrase, Speller, Row, RowAfter, Unless, are_none, AreClosed, AreEnclosed, phrases, SpellsList, SpellsArray}
-use Rattle.postcard_value_text.proofs.Fronts.{other_sign, sign_follows}
+use Rattle.postcard_value_text.proofs.Fronts.{other_sign, sign_follows, takes_none, none_taken}
 use Rattle.postcard_value_text.proofs.Openings.{begins_value}
 use Rattle.postcard_value_text.proofs.Readers.{Took, Misses, after_phrase, prefixed, refused, took_sign}
-use Rattle.postcard_value_text.proofs.Signs.{takes_none, none_taken}
 
 -- The trees of values in a row.
 abbrev pub row : List Value → Trees

@@ -5,12 +5,11 @@ use Rattle.std.specs.Fmt.{◌++?◌}
 use Rattle.std.specs.Bool.{◌==◌}
 use Rattle.std.proofs.Math.Dec.{eqb-suc-zero}
 use Rattle.postcard_wire.specs.Tree.{Tree, NoTrees, Then, trees}
-use Rattle.postcard_schema.specs.Meaning.{types_of, no_types}
 use Rattle.postcard_schema.specs.declared.leaf.Leaf.{Leaf}
-use Rattle.postcard_schema.specs.declared.schema.Named.{Named}
 use Rattle.postcard_schema.specs.declared.schema.Schema.{Schema, the_lemmas}
 use Rattle.postcard_schema.specs.declared.schema.Schema.TheShapes.{former-Schema-Struct-0-at-2}
 use Rattle.postcard_schema.specs.declared.schema.Schema.TheVariants as schemas
+use Rattle.postcard_value_text.specs.{Named, no_types, types_of}
 use Rattle.postcard_value_text.specs.Layout.{Layout, leaf, option, list, mapping, array, tuple, structure, choice, then_field, field_row, layout_of, layouts_of, fields_of, is_unit, has_brackets}
 use Rattle.postcard_value_text.specs.Shown.{Printer, text, texts, field_text, field_texts, text_at, variant_text, tuple_end, lead, joined, each_by, enclosed, content_text}
 use Rattle.postcard_value_text.proofs.Joined.{parts_more}

@@ -7,18 +7,16 @@ use Rattle.std.proofs.lemmas.List.{drop_more}
 use Rattle.postcard_wire.specs.Tree.{Tree, Trees, NoTrees}
 use Rattle.postcard_wire.specs.Tree as nodes
 use Rattle.postcard_wire.specs.Reading.{IsEnd, IsThen}
-use Rattle.postcard_schema_text.specs.Text.{Then, TakesPhrase, IsSign}
 use Rattle.postcard_schema_text.specs.FrontLemmas.{takes_split}
 use Rattle.postcard_schema_text.specs.Phrases.{takes_two}
 use Rattle.postcard_value.specs.declared.value.Value.{Value}
-use Rattle.postcard_value.specs.Tree.{tree}
+use Rattle.postcard_value_text.specs.{IsSign, TakesPhrase, Then, tree}
 use Rattle.postcard_value_text.specs.declared.error.Stop.{Stop}
 use Rattle.postcard_value_text.specs.Accepted.{FollowsValue, ReadsAs, ReadsText, ReadsTree}
 use Rattle.postcard_value_text.specs.Spelled.{Phrase, Speller, Row, RowAfter, Unless}
-use Rattle.postcard_value_text.proofs.Fronts.{sign_follows}
+use Rattle.postcard_value_text.proofs.Fronts.{sign_follows, takes_none, none_taken}
 use Rattle.postcard_value_text.proofs.Items.{one_more, row}
 use Rattle.postcard_value_text.proofs.Readers.{Took, Misses, prefixed, refused}
-use Rattle.postcard_value_text.proofs.Signs.{takes_none, none_taken}
 
 -- ---- parts in a row
 

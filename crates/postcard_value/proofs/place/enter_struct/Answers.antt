@@ -1,8 +1,10 @@
 -- The fields before the loop's place were read. The first that can't be read is the part that is returned.
 use Rattle.std.proofs.Common.{◌≡◌, ◌<◌, [], ◌∷◌, ◌++◌, length, take, take_all, sym, ap, ◌∙◌, arith, append_assoc}
 use Rattle.postcard_schema.specs.declared.path.Step.TheVariants.{Name}
+use Rattle.postcard_schema.specs.Lemmas.{type_of_struct}
+use Rattle.postcard_value.specs.{contents, type_of}
 use Rattle.postcard_value.specs.Refused.{in_struct}
-use Rattle.postcard_value.proofs.FrontLemmas.{field_more, struct_none, field_depth}
+use Rattle.postcard_value.proofs.FrontLemmas.{field_more, parts_none, field_depth}
 use Rattle.postcard_value.proofs.place.enter_struct.Goals as goal
 
 pub loop-field-preserved : goal.loop-field-preserved
@@ -45,4 +47,6 @@ returns-clause-found c = λ s is.
     let xs = c.deref-field-items.result.now in
     let whole : take c.loop-field.field-index xs ≡ c.args.fields.now.items = take_all c.loop-field.field-index xs
     (omega arith) ∙ c.deref-field-items.ensures.value in
-    (λ none. absurd (struct_none s c.args.fields.now c.args.bytes.now so.0 c.loop-field.rest.now is so.2 (rw whole at so.1) none), so.3)
+    let known = ap type_of is ∙ type_of_struct c.args.fields.now in
+    let all = contents c.args.fields.now.items in
+    (λ none. absurd (parts_none s all c.args.bytes.now so.0 c.loop-field.rest.now known so.2 (rw whole at so.1) none), so.3)

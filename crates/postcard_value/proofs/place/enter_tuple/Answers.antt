@@ -1,8 +1,10 @@
 -- The parts before the loop's place were read. The first that can't be read is the part that is returned.
 use Rattle.std.proofs.Common.{◌≡◌, ◌<◌, [], ◌∷◌, ◌++◌, length, take, take_all, sym, ap, ◌∙◌, arith, append_assoc}
 use Rattle.postcard_schema.specs.declared.path.Step.TheVariants.{Part}
+use Rattle.postcard_schema.specs.Lemmas.{type_of_tuple}
+use Rattle.postcard_value.specs.{type_of}
 use Rattle.postcard_value.specs.Refused.{in_tuple}
-use Rattle.postcard_value.proofs.FrontLemmas.{part_more, tuple_none, part_depth}
+use Rattle.postcard_value.proofs.FrontLemmas.{part_more, parts_none, part_depth}
 use Rattle.postcard_value.proofs.place.enter_tuple.Goals as goal
 
 pub loop-i-preserved : goal.loop-i-preserved
@@ -43,4 +45,5 @@ returns-clause-found c = λ s is.
     let so = c.loop-i.invariant in
     let xs = c.deref-part-items.result.now in
     let whole : take c.loop-i.i xs ≡ c.args.parts.now.items = take_all c.loop-i.i xs (omega arith) ∙ c.deref-part-items.ensures.value in
-    (λ none. absurd (tuple_none s c.args.parts.now c.args.bytes.now so.0 c.loop-i.rest.now is so.2 (rw whole at so.1) none), so.3)
+    let known = ap type_of is ∙ type_of_tuple c.args.parts.now in
+    (λ none. absurd (parts_none s c.args.parts.now.items c.args.bytes.now so.0 c.loop-i.rest.now known so.2 (rw whole at so.1) none), so.3)

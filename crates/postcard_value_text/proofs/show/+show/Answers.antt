@@ -4,11 +4,9 @@ use Rattle.std.proofs.Common.{◌≡◌, ◌+◌, ◌<◌, ◌++◌, false, true
 use Rattle.std.proofs.lemmas.Grind.{common_steps}
 use Rattle.std.proofs.Output.{displays_on_ok_of_eq}
 use Rattle.std.specs.Fmt.{◌++?◌}
-use Rattle.postcard_wire.specs.Tree.{trees}
 use Rattle.postcard_wire.specs.Tree as nodes
-use Rattle.postcard_value.specs.Tree.{tree}
 use Rattle.postcard_value.specs.declared.value.Value as values
-use Rattle.postcard_value_text.specs.Layout.{layout_of, layouts_of, fields_of, is_unit, has_brackets}
+use Rattle.postcard_value_text.specs.{fields_of, has_brackets, is_unit, layout_of, layouts_of, tree, trees}
 use Rattle.postcard_value_text.specs.Shown.{text, texts, field_texts, field_text, entry_text, variant_text, option_text, parts_text, fields_text, enclosed, joined, all_by, each_by, lead}
 use Rattle.postcard_value_text.proofs.Joined.{items_more, item_more, parts_begin, then_more, displays_failed, two_then, one_then, encloses}
 use Rattle.postcard_value_text.proofs.Layouts.{tuple_more, struct_more, variant_at, content_brackets, content_other, pair_trees, layout_of_map, layout_of_struct, layout_of_enum}
