@@ -2,6 +2,7 @@
 use Rattle.std.proofs.Common.{◌≡◌, ◌≢◌, ℕ, Bool, zero, suc, ◌+◌, ◌<◌, ◌^◌, true, false, List, [], ◌∷◌, length, get_or, codes, string_bytes, refl, sym, ap, subst, ◌∙◌, true≢false, arith, ◌⊎◌, inl, inr}
 use Rattle.std.specs.Prelude.{Result, Ok, Err}
 use Rattle.std.specs.Str.{IsTrimAsciiStart}
+use borrow.Author.Count.{below_more}
 use Rattle.std.proofs.lemmas.List.{get_or_default}
 use Rattle.std.proofs.lemmas.Result.{IfOk-weaker}
 use Rattle.postcard_wire.specs.Tree.{Tree, NoTrees}
@@ -214,18 +215,13 @@ one_index ns i k name n differ h low here is =
     let not_before : k < i → ⊥ = λ before. one_before name ns k i f.0 n differ before low f.1 f.2 here is in
     omega (arith, not_after, not_before)
 
-below_or_at : (k i : ℕ) → k < i + 1 → (k < i) ⊎ (k ≡ i)
-below_or_at k i low = grind (arith, low)
-
 -- If neither the variants before index i nor variant i has the name, no variant before i + 1 has it.
 pub not_called_more : (name : List ℕ) (ns : List (Named Schema)) (i : ℕ) (n : Named Schema) → i < length ns → ((k : ℕ) (m : Named Schema) → k < i → m ≡ get_or ns k m → string_bytes m.name ≢ name)
     → n ≡ get_or ns i n → string_bytes n.name ≢ name → (k : ℕ) (m : Named Schema) → k < i + 1 → m ≡ get_or ns k m → string_bytes m.name ≢ name
-not_called_more name ns i n within before here none k m low is = elim (below_or_at k i low) [
-  | inl less ↦ before k m less is
-  | inr same ↦
-      let one : m ≡ n = is ∙ ap (λ j. get_or ns j m) same ∙ get_or_default ns i m n within ∙ sym here in
-      subst (λ z. string_bytes z.name ≢ name) (sym one) none
-]
+not_called_more name ns i n within before here none k m low is =
+    let at : m ≡ get_or ns i m → string_bytes m.name ≢ name =
+    λ own. subst (λ z. string_bytes z.name ≢ name) (sym (own ∙ get_or_default ns i m n within ∙ sym here)) none in
+    below_more (λ j. m ≡ get_or ns j m → string_bytes m.name ≢ name) i (λ j less own. before j m less own) at k low is
 
 same_variant : (ns : List (Named Schema)) (k : ℕ) (n u : Named Schema) → n ≡ get_or ns k n → k < length ns → u ≡ get_or ns k u → u ≡ n
 same_variant ns k n u here low is = is ∙ get_or_default ns k u n low ∙ sym here

@@ -1,6 +1,7 @@
 -- Lemmas on the layouts of schemas, and on the printers of schemas in a row.
 use Rattle.std.proofs.Common.{◌≡◌, ℕ, zero, suc, ◌+◌, ◌<◌, true, false, List, [], ◌∷◌, map, length, take, get_or, Some, Box, Vec, string_bytes, refl, sym, ap, ◌∙◌, rules, arith}
 use Rattle.std.specs.declared.alloc.Global.{Global}
+use Rattle.std.proofs.lemmas.Grind.{common_steps}
 use Rattle.std.specs.Fmt.{◌++?◌}
 use Rattle.std.specs.Bool.{◌==◌}
 use Rattle.std.proofs.Math.Dec.{eqb-suc-zero}
@@ -76,10 +77,9 @@ struct_more b see ns vs i n v few low is here = rw (field_texts_map ns) (parts_m
 
 -- The trees of two values.
 pub pair_trees : {X : Type 0} (see : X → Tree) (vs : List X) (u v : X) → length vs ≡ 2 → u ≡ get_or vs 0 u → v ≡ get_or vs 1 v → trees (map see vs) ≡ Then (see u) (Then (see v) NoTrees)
-pair_trees see [] u v two first second = absurd (omega (arith, two))
-pair_trees see (x ∷ []) u v two first second = absurd (omega (arith, two))
-pair_trees see (x ∷ y ∷ []) u v two first second = rw (first, second) refl
-pair_trees see (x ∷ y ∷ z ∷ vs) u v two first second = absurd (omega (arith, two))
+pair_trees see vs u v two first second =
+    let pair : map see vs ≡ see u ∷ see v ∷ [] = grind (arith, common_steps, two, first, second) in
+    ap trees pair
 
 -- The printer of a variant is at its index.
 pub variant_at : (ns : List (Named Schema)) (i : ℕ) (n : Named Schema) → i < length ns → n ≡ get_or ns i n

@@ -1,5 +1,5 @@
 -- Values without parts at the start of a text: how what is read of one is its value.
-use Rattle.std.proofs.Common.{◌≡◌, ℕ, Bool, true, false, List, [], ◌++◌, map, Ok, Err, Result, IsErrAnd, refl, sym, ap, subst, ◌∙◌}
+use Rattle.std.proofs.Common.{◌≡◌, ℕ, Bool, true, false, List, [], ◌++◌, map, Ok, Result, IsErrAnd, refl, sym, ap, subst, ◌∙◌}
 use Rattle.std.specs.Char.{encode_utf8, IsScalar}
 use Rattle.std.specs.Str.{IsTrimAsciiStart, IsUtf8}
 use Rattle.std.proofs.lemmas.Str.{encode_same}
@@ -19,7 +19,7 @@ use Rattle.postcard_value_text.specs.declared.error.Stop.TheVariants.{Memory}
 use Rattle.postcard_value_text.specs.Spelled.{IsTruth, Phrase, Speller, SpellsLeaf}
 use Rattle.postcard_value_text.proofs.Blanks.{led_again, quoted_led, bytes_led, float_led, quoted_trimmed, bytes_trimmed, float_trimmed}
 use Rattle.postcard_value_text.proofs.Fronts.{scalar_trimmed, bits_scalars, truth_scalars, goes_number, goes_word, goes_float}
-use Rattle.postcard_value_text.proofs.Readers.{passed_on}
+use Rattle.postcard_value_text.proofs.Readers.{passed_on, fails_with}
 
 -- A text denotes one boolean.
 pub one_truth : (x y : Bool) (word : List ℕ) → IsTruth x word → IsTruth y word → x ≡ y
@@ -59,14 +59,8 @@ module _ {X : Type 0} {R : Tree → Type 0} {S : Speller} {form : X → Tree} {I
   -- The value is refused if no such x is next.
   pub leaf_refused : {e : Stop} (v : Result Value Stop) → IsErrAnd v (λ y. y ≡ e)
       → ((y : X) (r : List ℕ) → I y → TakesPhrase (P y) b r → E r → e ≡ Memory) → ReadsTree (Unit {0}) R S a v c
-  leaf_refused {e} v back none = passed_on v back (refusal e none)
-    where
-      refusal : (e : Stop) → ((y : X) (r : List ℕ) → I y → TakesPhrase (P y) b r → E r → e ≡ Memory) → ReadsTree (Unit {0}) R S a (Err e) c
-      refusal e none = record {
-        value = tt;
-        spelled = tt;
-        accepted = λ names t r reads h goes. let k = f.front t a b r trim reads h in none k.0 r k.2 k.3 (f.ends r goes);
-      }
+  leaf_refused v back none = passed_on {see = tree} v back (fails_with (λ names t r reads h goes.
+      let k = f.front t a b r trim reads h in none k.0 r k.2 k.3 (f.ends r goes)))
 
 pub bool_form : LeafForm IsBoolean (SpellsLeaf leaves.Bool) Boolean (λ x. Unit {0}) (λ x. Led (IsTruth x)) EndsNumber
 bool_form = record {

@@ -65,31 +65,14 @@ pieces_next quote byte done held a r h = by h.more h.each h.whole h.left
     by (p ∷ ps) each whole left =
         let after = flat_map (λ p. p.1) ps ++ quote ∷ r in
         let all : p.1 ++ after ≡ byte ∷ a = sym (left ∙ append_assoc p.1 (flat_map (λ p. p.1) ps) (quote ∷ r)) in
+        let others = flat_map (λ p. p.0) ps in
         elim (piece_begins quote p.0 p.1 after a byte each.0 all) [
-          | inl k ↦ inr (inl (
-            k.0,
-            k.1,
-            record {
-              more = ps;
-              each = each.1;
-              whole = whole ∙ ap (λ t. done ++ (t ++ flat_map (λ p. p.0) ps)) k.2 ∙ sym (append_assoc done (byte ∷ []) (flat_map (λ p. p.0) ps));
-              left = sym k.3;
-            },
-          ))
-          | inr k ↦ inr (inr (
-            k.0,
-            (
-              p.0,
-              after,
-              (k.1.0, k.1.1, sym k.1.2),
-              record {
-                more = ps;
-                each = each.1;
-                whole = whole ∙ sym (append_assoc done p.0 (flat_map (λ p. p.0) ps));
-                left = refl;
-              },
-            ),
-          ))
+          | inl k ↦
+              let held_is = whole ∙ ap (λ t. done ++ (t ++ others)) k.2 ∙ sym (append_assoc done (byte ∷ []) others) in
+              inr (inl (k.0, k.1, record { more = ps; each = each.1; whole = held_is; left = sym k.3 }))
+          | inr k ↦
+              let held_is = whole ∙ sym (append_assoc done p.0 others) in
+              inr (inr (k.0, (p.0, after, (k.1.0, k.1.1, sym k.1.2), record { more = ps; each = each.1; whole = held_is; left = refl })))
         ]
 
 -- Where a quote is next, no piece is left.
