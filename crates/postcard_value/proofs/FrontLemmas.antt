@@ -43,33 +43,22 @@ reads_join (s ∷ ss) us a b (t, ts, e, r, h) k = rw e (t, join ts b, refl, r, r
 -- The bytes of values in a row and of one value more encode the longer row.
 pub each_more : (t : MessageType) (n : ℕ) (tree : Tree) (done front : List ℕ) → SpellsEach t n done → reads t tree → Spells tree front
     → SpellsEach t (n + 1) (done ++ front)
-each_more t n tree done front a r s = (
-  join a.0 (Then tree NoTrees),
-  (
-    omega (arith, count_join a.0 (Then tree NoTrees), a.1.0),
-    each_join _ a.0 _ a.1.1
-        (r, tt),
-  ),
-  all_join a.0 _ _ _ a.2 (alone tree _ s),
-)
+each_more t n tree done front a r s =
+    let one : Trees = Then tree NoTrees in
+    (join a.0 one, (omega (arith, count_join a.0 one, a.1.0), each_join _ a.0 one a.1.1 (r, tt)), all_join a.0 one _ _ a.2 (alone tree _ s))
 
 -- The key and the value of an entry are the entry.
 pub entry_spelled : (k v : MessageType) (p q : List ℕ) → FrontSpells k p → FrontSpells v q → FrontSpells (entry_of k v) (p ++ q)
-entry_spelled k v p q (s, r, f) (t, u, h) = (
-  Group (Then s (Then t NoTrees)),
-  (Then s (Then t NoTrees), refl, (s, Then t NoTrees, refl, r, (t, NoTrees, refl, u, refl))),
-  (p, q, f, alone t q h, refl),
-)
+entry_spelled k v p q (s, r, f) (t, u, h) =
+    let both : Trees = Then s (Then t NoTrees) in
+    (Group both, (both, refl, (s, Then t NoTrees, refl, r, (t, NoTrees, refl, u, refl))), (p, q, f, alone t q h, refl))
 
 -- The same for one part more of a tuple, and one field more of a struct.
 pub parts_more : (ss : List Schema) (x : Schema) (done front : List ℕ) → SpellsParts ss done → FrontSpells (type_of x) front
     → SpellsParts (ss ++ x ∷ []) (done ++ front)
-parts_more ss x done front a b = (
-  join a.0 (Then b.0 NoTrees),
-  reads_join ss (x ∷ []) a.0 (Then b.0 NoTrees) a.1 (b.0, NoTrees, refl, b.1, refl),
-  all_join a.0 _ _ _ a.2
-      (alone b.0 _ b.2),
-)
+parts_more ss x done front a b =
+    let one : Trees = Then b.0 NoTrees in
+    (join a.0 one, reads_join ss (x ∷ []) a.0 one a.1 (b.0, NoTrees, refl, b.1, refl), all_join a.0 one _ _ a.2 (alone b.0 _ b.2))
 
 -- The first i parts and part i are the first i + 1 parts.
 pub part_more : (xs : List Schema) (i : ℕ) (x : Schema) (done front : List ℕ) → i < length xs → x ≡ get_or xs i x → SpellsParts (take i xs) done
@@ -102,11 +91,8 @@ pub option_none : (s : Schema) (content : Box Schema Global) (bytes rest : List 
     → HasNoFront s bytes
     → HasNoFront content.value rest
 option_none s content bytes rest is cut none = λ front after here f.
-    none (1 ∷ front) after (cut ∙ ap (λ x. 1 ∷ x) here) (rw (is, type_of_option content) (
-      Present f.0,
-      inr (f.0, refl, f.1),
-      (1 ∷ [], front, refl, f.2, refl),
-    ))
+    none (1 ∷ front) after (cut ∙ ap (λ x. 1 ∷ x) here)
+    (rw (is, type_of_option content) (Present f.0, inr (f.0, refl, f.1), (1 ∷ [], front, refl, f.2, refl)))
 
 -- If no prefix encodes the list, no prefix after its count encodes the elements. A map is a list of entries.
 pub list_none : (s : Schema) (t : MessageType) (bytes count rest : List ℕ) (n : ℕ) → type_of s ≡ seq t → bytes ≡ count ++ rest → n < 2 ^ 64

@@ -18,17 +18,9 @@ pub list_finds : (s : Schema) (element : Box Schema Global) (bytes count rest : 
 list_finds s element bytes count rest n is cut few num old new None (row, same) =
     (λ none. absurd (row (list_none s _ bytes count rest n (ap type_of is ∙ type_of_seq element) cut few num none)), same)
 list_finds s element bytes count rest n is cut few num old new (Some part) (i, front, low, each, more, join, lack, own) =
-    rw own (
-      (
-        count ++ front,
-        Element i ∷ [],
-        in_list s element n i count front is few num low each,
-        more,
-        cut ∙ ap (λ q. count ++ q) join ∙ sym (append_assoc count front part.1.now),
-        λ none. rw own at lack,
-      ),
-      rw (is, type_of_seq element) (omega arith),
-    )
+    let whole = cut ∙ ap (λ q. count ++ q) join ∙ sym (append_assoc count front part.1.now) in
+    let entered = in_list s element n i count front is few num low each in
+    rw own ((count ++ front, Element i ∷ [], entered, more, whole, λ none. rw own at lack), rw (is, type_of_seq element) (omega arith))
 
 -- What was found among the elements was found in the array.
 pub array_finds : (s : Schema) (element : Box Schema Global) (bytes : List ℕ) (n : ℕ) → s ≡ schemas.Array element n → (old new : List Step)
@@ -44,29 +36,14 @@ pub map_finds : (s : Schema) (k v : Box Schema Global) (bytes count rest : List 
 map_finds s k v bytes count rest n is cut few num old new None (row, same) =
     (λ none. absurd (row (list_none s _ bytes count rest n (ap type_of is ∙ type_of_map k v) cut few num none)), same)
 map_finds s k v bytes count rest n is cut few num old new (Some part) (i, front, low, each, lack, inl (more, join, own)) =
-    rw own (
-      (
-        count ++ front,
-        Element i ∷ Part 0 ∷ [],
-        in_key s k v n i count front is few num low each,
-        more,
-        cut ∙ ap (λ q. count ++ q) join ∙ sym (append_assoc count front part.1.now),
-        λ none. rw own at lack,
-      ),
-      rw (is, type_of_map k v) (omega arith),
-    )
+    let whole = cut ∙ ap (λ q. count ++ q) join ∙ sym (append_assoc count front part.1.now) in
+    let entered = in_key s k v n i count front is few num low each in
+    rw own ((count ++ front, Element i ∷ Part 0 ∷ [], entered, more, whole, λ none. rw own at lack), rw (is, type_of_map k v) (omega arith))
 map_finds s k v bytes count rest n is cut few num old new (Some part) (i, front, low, each, lack, inr (key, spelled, more, join, own)) =
-    rw own (
-      (
-        count ++ (front ++ key),
-        Element i ∷ Part 1 ∷ [],
-        in_value s k v n i count front key is few num low each spelled,
-        more,
-        cut ∙ ap (λ q. count ++ q) join ∙ sym (append_assoc count (front ++ key) part.1.now),
-        λ none. rw own at lack,
-      ),
-      rw (is, type_of_map k v) (omega arith),
-    )
+    let done = front ++ key in
+    let whole = cut ∙ ap (λ q. count ++ q) join ∙ sym (append_assoc count done part.1.now) in
+    let entered = in_value s k v n i count front key is few num low each spelled in
+    rw own ((count ++ done, Element i ∷ Part 1 ∷ [], entered, more, whole, λ none. rw own at lack), rw (is, type_of_map k v) (omega arith))
 
 -- What was found, where it is known which of both it is.
 pub some_found : (s : Schema) (bytes : List ℕ) (old new : List Step) (found : Option (Bor Schema × Bor (List ℕ))) (part : Bor Schema × Bor (List ℕ))

@@ -121,8 +121,7 @@ module _ {S : Type 0} {left : S → Left} {able : S → ℕ → Type 0} {may_lea
       front = g.front;
       is_read = (g.thing, refl, g.is_read);
       is_spelled = g.is_spelled;
-      has = ap Group
-          (each_tree tree g.thing vs g.has) ∙ sym seen;
+      has = ap Group (each_tree tree g.thing vs g.has) ∙ sym seen;
       taken = g.taken;
     };
     accepts = λ t p a b c. let k = r.accepts a.0 p a.2 (rw a.1 at b) c in (a.1 ∙ (ap Group (each_tree tree a.0 vs k.0) ∙ sym seen), k.1);

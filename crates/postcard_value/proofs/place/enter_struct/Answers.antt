@@ -13,12 +13,9 @@ loop-field-preserved c =
     let r = c.in-Ok.ensures.gives in
     let xs = c.deref-field-items.result.now in
     let i = c.loop-field.field-index in
-    let low : i < length xs = omega arith in (
-      so.0 ++ r.front,
-      field_more xs i c.field-item.result so.0 r.front low c.field-item.is so.1 (r.tree, r.is_read, r.is_spelled),
-      so.2 ∙ ap (λ q. so.0 ++ q) r.joins ∙ sym (append_assoc so.0 r.front c.in-Ok.after.now),
-      so.3,
-    )
+    let low : i < length xs = omega arith in
+    let more = field_more xs i c.field-item.result so.0 r.front low c.field-item.is so.1 (r.tree, r.is_read, r.is_spelled) in
+    (so.0 ++ r.front, more, so.2 ∙ ap (λ q. so.0 ++ q) r.joins ∙ sym (append_assoc so.0 r.front c.in-Ok.after.now), so.3)
 
 pub returns-in_default-clause-found : goal.returns-in_default-clause-found
 returns-in_default-clause-found c = λ s is.
@@ -29,17 +26,12 @@ returns-in_default-clause-found c = λ s is.
     let x = c.field-item.result in
     let inside : i < length xs = omega arith in
     let low = rw whole at inside in
-    let found = rw whole at c.field-item.is in (
-      (
-        so.0,
-        Name c.deref.result ∷ [],
-        in_struct s c.args.fields.now i x c.deref.result so.0 is low found c.deref.ensures (rw whole at so.1),
-        rw so.3 at c.in_ok-push-in_default.ensures.items,
-        so.2,
-        λ none front rest cut f. c.in_default.not-OutOfMemory (c.in-Err.ensures.accepts f.0 front rest f.1 f.2 cut),
-      ),
-      field_depth s c.args.fields.now i x is low found,
-    )
+    let found = rw whole at c.field-item.is in
+    let name = c.deref.result in
+    let entered = in_struct s c.args.fields.now i x name so.0 is low found c.deref.ensures (rw whole at so.1) in
+    let path = rw so.3 at c.in_ok-push-in_default.ensures.items in
+    let less = field_depth s c.args.fields.now i x is low found in
+    ((so.0, Name name ∷ [], entered, path, so.2, λ none front rest cut f. c.in_default.not-OutOfMemory (c.in-Err.ensures.accepts f.0 front rest f.1 f.2 cut)), less)
 
 pub returns-clause-found : goal.returns-clause-found
 returns-clause-found c = λ s is.

@@ -12,12 +12,9 @@ loop-i-preserved c =
     let so = c.loop-i.invariant in
     let r = c.in-Ok.ensures.gives in
     let xs = c.deref-part-items.result.now in
-    let low : c.loop-i.i < length xs = omega arith in (
-      so.0 ++ r.front,
-      part_more xs c.loop-i.i c.part-item.result so.0 r.front low c.part-item.is so.1 (r.tree, r.is_read, r.is_spelled),
-      so.2 ∙ ap (λ q. so.0 ++ q) r.joins ∙ sym (append_assoc so.0 r.front c.in-Ok.after.now),
-      so.3,
-    )
+    let low : c.loop-i.i < length xs = omega arith in
+    let more = part_more xs c.loop-i.i c.part-item.result so.0 r.front low c.part-item.is so.1 (r.tree, r.is_read, r.is_spelled) in
+    (so.0 ++ r.front, more, so.2 ∙ ap (λ q. so.0 ++ q) r.joins ∙ sym (append_assoc so.0 r.front c.in-Ok.after.now), so.3)
 
 pub returns-in_default-clause-found : goal.returns-in_default-clause-found
 returns-in_default-clause-found c = λ s is.
@@ -28,17 +25,11 @@ returns-in_default-clause-found c = λ s is.
     let x = c.part-item.result in
     let inside : i < length xs = omega arith in
     let low = rw whole at inside in
-    let found = rw whole at c.part-item.is in (
-      (
-        so.0,
-        Part i ∷ [],
-        in_tuple s c.args.parts.now i x so.0 is low found (rw whole at so.1),
-        rw so.3 at c.in_ok-push-in_default.ensures.items,
-        so.2,
-        λ none front rest cut f. c.in_default.not-OutOfMemory (c.in-Err.ensures.accepts f.0 front rest f.1 f.2 cut),
-      ),
-      part_depth s c.args.parts.now i x is low found,
-    )
+    let found = rw whole at c.part-item.is in
+    let entered = in_tuple s c.args.parts.now i x so.0 is low found (rw whole at so.1) in
+    let path = rw so.3 at c.in_ok-push-in_default.ensures.items in
+    let less = part_depth s c.args.parts.now i x is low found in
+    ((so.0, Part i ∷ [], entered, path, so.2, λ none front rest cut f. c.in_default.not-OutOfMemory (c.in-Err.ensures.accepts f.0 front rest f.1 f.2 cut)), less)
 
 pub returns-clause-found : goal.returns-clause-found
 returns-clause-found c = λ s is.
