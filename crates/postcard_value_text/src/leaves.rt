@@ -169,6 +169,7 @@ fn show_bits<W: Write>(integer: Integer, bits: u128, f: &mut Formatter<W>) -> fm
 
 /// Prints a string between double quotes, with escapes. A string that needs no escapes is written
 /// in one piece.
+#[tactic(auto, using(crate::proofs::Joined::displays_failed))]
 fn show_text<W: Write>(text: &str, f: &mut Formatter<W>) -> fmt::Result
     ensures { DisplaysOnOk W.write_str_gives f.old result (debug_str text.now) f.new }
 {
