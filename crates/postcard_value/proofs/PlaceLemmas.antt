@@ -27,7 +27,8 @@ pub array_finds : (s : Schema) (element : Box Schema Global) (bytes : List ℕ) 
     (found : Option (Bor Schema × Bor (List ℕ))) → FindsElement element.value n bytes old new found → Finds s bytes old new found
 array_finds s element bytes n is old new None (row, same) = (λ none. absurd (row (array_none s element bytes n is none)), same)
 array_finds s element bytes n is old new (Some part) (i, front, low, each, more, join, lack, own) =
-    rw own ((front, Element i ∷ [], in_array s element n i front is low each, more, join, λ none. rw own at lack), rw (is, type_of_array element n) (omega arith))
+    let entered = in_array s element n i front is low each in
+    rw own ((front, Element i ∷ [], entered, more, join, λ none. rw own at lack), rw (is, type_of_array element n) (omega arith))
 
 -- What was found among the entries was found in the map.
 pub map_finds : (s : Schema) (k v : Box Schema Global) (bytes count rest : List ℕ) (n : ℕ) → s ≡ schemas.Map k v → bytes ≡ count ++ rest → n < 2 ^ 64

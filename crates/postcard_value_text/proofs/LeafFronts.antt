@@ -36,7 +36,8 @@ one_character c d e = (encode_same c d [] [] (ap (λ t. t ++ []) e)).0
 
 -- What is read of a value is x of X, for which I holds. The value's tree is `form x`, and the phrases of `P x` denote x. E holds of what may
 -- follow these.
-pub record LeafForm {X : Type 0} (R : Tree → Type 0) (S : Speller) (form : X → Tree) (I : X → Type 0) (P : X → Phrase) (E : List ℕ → Type 0) : Type 0 where
+pub record LeafForm {X : Type 0} (R : Tree → Type 0) (S : Speller) (form : X → Tree) (I : X → Type 0) (P : X → Phrase)
+    (E : List ℕ → Type 0) : Type 0 where
   pub spells : (x : X) (a b c : List ℕ) → IsTrimAsciiStart a b → TakesPhrase (P x) b c → TakesPhrase (S (form x)) a c
   pub front : (t : Tree) (a b r : List ℕ) → IsTrimAsciiStart a b → R t → TakesPhrase (S t) a r
       → (x : X) × (t ≡ form x) × I x × TakesPhrase (P x) b r

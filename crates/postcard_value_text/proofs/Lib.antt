@@ -10,7 +10,6 @@ pub mod LeafFronts
 pub mod PlainTexts
 pub mod Joined
 pub mod Layouts
-pub mod FieldNames
 pub mod Openings
 pub mod Distinct
 pub mod Items

@@ -95,8 +95,9 @@ minus_found word rest n (Some x) z e is (fits, eq) same =
     (n, subst (IsLiteral n) (sym k.1) is, eq ∙ same ∙ ap (λ b. cond b (minus n) (pos n)) (sym k.0))
 
 -- The word denotes no number that fits, since the only number that it denotes doesn't fit.
-pub signed_none : (f : ℕ → ℤ) (word digits : List ℕ) (n : ℕ) (r : Option ℤ) (z : ℤ) → ((y : ℤ) → FitsSigned w128 y → IsSigned y word → SignedBy f digits y)
-    → IsLiteral n digits → SomeIff r (FitsSigned w128 z) z → z ≡ f n → IfNone r ((y : ℤ) → FitsSigned w128 y → IsSigned y word → ⊥)
+pub signed_none : (f : ℕ → ℤ) (word digits : List ℕ) (n : ℕ) (r : Option ℤ) (z : ℤ)
+    → ((y : ℤ) → FitsSigned w128 y → IsSigned y word → SignedBy f digits y) → IsLiteral n digits → SomeIff r (FitsSigned w128 z) z → z ≡ f n
+    → IfNone r ((y : ℤ) → FitsSigned w128 y → IsSigned y word → ⊥)
 signed_none f word digits n None z spelled is some same = λ y fits h.
     let (m, low, literal, value) = spelled y fits h in
     let number : m ≡ n = one_literal m n digits literal is in

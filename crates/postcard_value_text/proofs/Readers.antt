@@ -71,7 +71,8 @@ module _ {T U : Type 0} {see : T → U} {N : Type 0} {R : U → Type 0} {S : U �
   named_as f h = record { value = h.value; spelled = h.spelled; accepted = λ names. h.accepted (f names) }
 
   -- An error that is `Memory` if there is such a prefix, or that comes if there is none.
-  pub fails_with : {e : Stop} → (N → (u : U) (x : List ℕ) → R u → TakesPhrase (S u) a x → FollowsValue x → e ≡ Memory) → ReadsText see N R S a (Err e) b
+  pub fails_with : {e : Stop} → (N → (u : U) (x : List ℕ) → R u → TakesPhrase (S u) a x → FollowsValue x → e ≡ Memory)
+      → ReadsText see N R S a (Err e) b
   fails_with full = record { value = tt; spelled = tt; accepted = full }
 
   pub refused : {e : Stop} → (N → (u : U) (x : List ℕ) → R u → TakesPhrase (S u) a x → FollowsValue x → ⊥) → ReadsText see N R S a (Err e) b

@@ -20,4 +20,7 @@ returns-then-first-ne1 c = λ s held steps is inner.
 pub returns : goal.returns
 returns c = λ s held steps is inner.
     let cut : c.args.bytes.now ≡ 1 ∷ c.in-Some.rest.now = c.in-Some.ensures.cases.0 ∙ ap (λ b. b ∷ c.in-Some.rest.now) (omega arith) in
-    rw (← inner) ((1 ∷ [], [], in_option s held is, sym (append-nil steps), cut, option_none s held c.args.bytes.now c.in-Some.rest.now is cut), rw (is, type_of_option held) (omega arith))
+    rw (← inner) (
+      (1 ∷ [], [], in_option s held is, sym (append-nil steps), cut, option_none s held c.args.bytes.now c.in-Some.rest.now is cut),
+      rw (is, type_of_option held) (omega arith),
+    )

@@ -31,7 +31,9 @@ returns-in_default-clause-found c = λ s is.
     let entered = in_struct s c.args.fields.now i x name so.0 is low found c.deref.ensures (rw whole at so.1) in
     let path = rw so.3 at c.in_ok-push-in_default.ensures.items in
     let less = field_depth s c.args.fields.now i x is low found in
-    ((so.0, Name name ∷ [], entered, path, so.2, λ none front rest cut f. c.in_default.not-OutOfMemory (c.in-Err.ensures.accepts f.0 front rest f.1 f.2 cut)), less)
+    let accepts = c.in-Err.ensures.accepts in
+    let other = c.in_default.not-OutOfMemory in
+    ((so.0, Name name ∷ [], entered, path, so.2, λ none front rest cut f. other (accepts f.0 front rest f.1 f.2 cut)), less)
 
 pub returns-clause-found : goal.returns-clause-found
 returns-clause-found c = λ s is.

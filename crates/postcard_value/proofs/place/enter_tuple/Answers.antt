@@ -29,7 +29,9 @@ returns-in_default-clause-found c = λ s is.
     let entered = in_tuple s c.args.parts.now i x so.0 is low found (rw whole at so.1) in
     let path = rw so.3 at c.in_ok-push-in_default.ensures.items in
     let less = part_depth s c.args.parts.now i x is low found in
-    ((so.0, Part i ∷ [], entered, path, so.2, λ none front rest cut f. c.in_default.not-OutOfMemory (c.in-Err.ensures.accepts f.0 front rest f.1 f.2 cut)), less)
+    let accepts = c.in-Err.ensures.accepts in
+    let other = c.in_default.not-OutOfMemory in
+    ((so.0, Part i ∷ [], entered, path, so.2, λ none front rest cut f. other (accepts f.0 front rest f.1 f.2 cut)), less)
 
 pub returns-clause-found : goal.returns-clause-found
 returns-clause-found c = λ s is.

@@ -16,7 +16,8 @@ returns-clause-taken c =
       | then-not-are_none w ↦ rw (w.if-not-are_none.true, w.rest-is) (maybe_taken w.take.result a w.take.new.rest.now w.take.ensures.taken w.take.ensures.left)
       | else-not-are_none w ↦ rw (w.if-not-are_none.false, w.rest-is) (takes_none a)
     ] in
-    on_ok_weaker c.expect.result (takes_two (Unless c.args.are_none (IsMaybe 44)) (IsSign c.args.closing) a b c.expect.new.rest.now comma) c.expect.ensures.taken
+    on_ok_weaker c.expect.result (takes_two (Unless c.args.are_none (IsMaybe 44)) (IsSign c.args.closing) a b c.expect.new.rest.now comma)
+    c.expect.ensures.taken
 
 pub returns-clause-accepted : goal.returns-clause-accepted
 returns-clause-accepted c = λ after black differs h.

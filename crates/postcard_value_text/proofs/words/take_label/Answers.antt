@@ -3,7 +3,7 @@ use Rattle.std.proofs.Common.{refl, sym, subst}
 use Rattle.postcard_schema_text.specs.FrontLemmas.{takes_split, sign_ends_word}
 use Rattle.postcard_schema_text.specs.Phrases.{takes_two}
 use Rattle.postcard_value_text.specs.{IsFieldName, IsSign, TakesPhrase}
-use Rattle.postcard_value_text.proofs.FieldNames.{field_more, field_trimmed}
+use Rattle.postcard_value_text.proofs.Blanks.{field_more, field_trimmed}
 use Rattle.std.proofs.lemmas.Result.{on_ok_weaker}
 use Rattle.postcard_value_text.proofs.words.take_label.Goals as goal
 
