@@ -5,7 +5,6 @@ use Rattle.std.specs.Int.{w128}
 use Rattle.std.specs.Prelude.{FitsSigned, Option, Some, None, IfSome, IfNone, SomeIff}
 use Rattle.std.specs.Str.Parse.{starts_with_minus, without_leading_plus, without_leading_sign}
 use Rattle.std.proofs.lemmas.Int.{ints}
-use Rattle.std.proofs.lemmas.Str.Parse.{without_leading_plus_none}
 use Rattle.postcard_schema_text.specs.declared.literal.LiteralError.{LiteralError}
 use Rattle.postcard_schema_text.specs.declared.literal.LiteralError.TheVariants.{Malformed, TooLarge}
 use Rattle.postcard_schema_text.specs.Literals.{IsLiteral, IsNoNumber}
