@@ -4,14 +4,13 @@ use Rattle.std.specs.Prelude.{nat_lt, if◌then◌else◌}
 use Rattle.postcard_wire.specs.Number.{AreDigits, SpellsNum}
 use Rattle.postcard_wire.specs.Tree.{Tree, Trees, NoTrees, Then, count}
 use Rattle.postcard_wire.specs.Reading.{IsByte, IsArray, Each}
-use Rattle.postcard_wire.specs.Spelling.{Spells, SpellsAll}
 use Rattle.postcard_schema.specs.declared.leaf.Float.{Float}
 use Rattle.postcard_schema.specs.declared.leaf.Float.TheVariants.{F32, F64}
 use Rattle.postcard_schema.specs.declared.leaf.Leaf.{Leaf}
 use Rattle.postcard_schema.specs.declared.leaf.Leaf.TheVariants as leaves
-use Rattle.postcard_schema.specs.Leaves.{float_size, size_of}
 use Rattle.postcard_schema.specs.Meaning.{MessageType, MessageTypes, leaf, option, seq, array, group, choice, no_types, then_type, leaf_reads, reads, reads_all, has_bytes, some_has_bytes}
 use Rattle.postcard_schema.specs.Lemmas.{size_some}
+use Rattle.postcard_value.specs.{Spells, SpellsAll, float_size, size_of}
 use Rattle.postcard_value.specs.TypeLaws.{by_integer}
 
 digits_some : (p : List ℕ) → AreDigits p → 0 < length p

@@ -5,15 +5,14 @@ use Rattle.std.specs.declared.alloc.Global.{Global}
 use Rattle.std.proofs.lemmas.List.{take_more}
 use Rattle.postcard_wire.specs.Number.{SpellsNum}
 use Rattle.postcard_wire.specs.Tree.{Tree, Trees, Num, Present, Seq, Group, Variant, NoTrees, Then, count}
-use Rattle.postcard_wire.specs.Spelling.{Spells, SpellsAll}
 use Rattle.postcard_wire.specs.Reading.{Each, IsNum}
 use Rattle.postcard_shape.specs.Leaves.{num_same}
 use Rattle.postcard_schema.specs.declared.schema.Named.{Named}
-use Rattle.postcard_schema.specs.declared.schema.Schema.{Schema}
 use Rattle.postcard_schema.specs.declared.schema.Schema.TheVariants as schemas
 use Rattle.postcard_schema.specs.Bounds.{depth, greatest_depth}
-use Rattle.postcard_schema.specs.Lemmas.{content_at, type_of_array, type_of_enum, type_of_map, type_of_option, type_of_seq, type_of_struct, type_of_tuple}
-use Rattle.postcard_schema.specs.Meaning.{MessageType, contents, entry_of, type_of, types_of, reads, reads_all, reads_at}
+use Rattle.postcard_schema.specs.Lemmas.{content_at, type_of_array, type_of_enum, type_of_option, type_of_struct, type_of_tuple}
+use Rattle.postcard_schema.specs.Meaning.{group, seq}
+use Rattle.postcard_value.specs.{MessageType, Schema, Spells, SpellsAll, contents, entry_of, reads, reads_all, reads_at, type_of, types_of}
 use Rattle.postcard_value.specs.Fronts.{FrontSpells, HasNoFront, HasNoRow, SpellsEach, SpellsParts}
 
 -- ---- rows of trees
@@ -44,33 +43,22 @@ reads_join (s ∷ ss) us a b (t, ts, e, r, h) k = rw e (t, join ts b, refl, r, r
 -- The bytes of values in a row and of one value more encode the longer row.
 pub each_more : (t : MessageType) (n : ℕ) (tree : Tree) (done front : List ℕ) → SpellsEach t n done → reads t tree → Spells tree front
     → SpellsEach t (n + 1) (done ++ front)
-each_more t n tree done front a r s = (
-  join a.0 (Then tree NoTrees),
-  (
-    omega (arith, count_join a.0 (Then tree NoTrees), a.1.0),
-    each_join _ a.0 _ a.1.1
-        (r, tt),
-  ),
-  all_join a.0 _ _ _ a.2 (alone tree _ s),
-)
+each_more t n tree done front a r s =
+    let one : Trees = Then tree NoTrees in
+    (join a.0 one, (omega (arith, count_join a.0 one, a.1.0), each_join _ a.0 one a.1.1 (r, tt)), all_join a.0 one _ _ a.2 (alone tree _ s))
 
 -- The key and the value of an entry are the entry.
 pub entry_spelled : (k v : MessageType) (p q : List ℕ) → FrontSpells k p → FrontSpells v q → FrontSpells (entry_of k v) (p ++ q)
-entry_spelled k v p q (s, r, f) (t, u, h) = (
-  Group (Then s (Then t NoTrees)),
-  (Then s (Then t NoTrees), refl, (s, Then t NoTrees, refl, r, (t, NoTrees, refl, u, refl))),
-  (p, q, f, alone t q h, refl),
-)
+entry_spelled k v p q (s, r, f) (t, u, h) =
+    let both : Trees = Then s (Then t NoTrees) in
+    (Group both, (both, refl, (s, Then t NoTrees, refl, r, (t, NoTrees, refl, u, refl))), (p, q, f, alone t q h, refl))
 
 -- The same for one part more of a tuple, and one field more of a struct.
 pub parts_more : (ss : List Schema) (x : Schema) (done front : List ℕ) → SpellsParts ss done → FrontSpells (type_of x) front
     → SpellsParts (ss ++ x ∷ []) (done ++ front)
-parts_more ss x done front a b = (
-  join a.0 (Then b.0 NoTrees),
-  reads_join ss (x ∷ []) a.0 (Then b.0 NoTrees) a.1 (b.0, NoTrees, refl, b.1, refl),
-  all_join a.0 _ _ _ a.2
-      (alone b.0 _ b.2),
-)
+parts_more ss x done front a b =
+    let one : Trees = Then b.0 NoTrees in
+    (join a.0 one, reads_join ss (x ∷ []) a.0 one a.1 (b.0, NoTrees, refl, b.1, refl), all_join a.0 one _ _ a.2 (alone b.0 _ b.2))
 
 -- The first i parts and part i are the first i + 1 parts.
 pub part_more : (xs : List Schema) (i : ℕ) (x : Schema) (done front : List ℕ) → i < length xs → x ≡ get_or xs i x → SpellsParts (take i xs) done
@@ -103,25 +91,15 @@ pub option_none : (s : Schema) (content : Box Schema Global) (bytes rest : List 
     → HasNoFront s bytes
     → HasNoFront content.value rest
 option_none s content bytes rest is cut none = λ front after here f.
-    none (1 ∷ front) after (cut ∙ ap (λ x. 1 ∷ x) here) (rw (is, type_of_option content) (
-      Present f.0,
-      inr (f.0, refl, f.1),
-      (1 ∷ [], front, refl, f.2, refl),
-    ))
+    none (1 ∷ front) after (cut ∙ ap (λ x. 1 ∷ x) here)
+    (rw (is, type_of_option content) (Present f.0, inr (f.0, refl, f.1), (1 ∷ [], front, refl, f.2, refl)))
 
--- If no prefix encodes the list, no prefix after its count encodes the elements.
-pub list_none : (s : Schema) (element : Box Schema Global) (bytes count rest : List ℕ) (n : ℕ) → s ≡ schemas.Seq element → bytes ≡ count ++ rest
-    → n < 2 ^ 64 → SpellsNum 64 n count → HasNoFront s bytes → HasNoRow (type_of element.value) n rest
-list_none s element bytes count rest n is cut low num none front after here (ts, (size, each), f) =
+-- If no prefix encodes the list, no prefix after its count encodes the elements. A map is a list of entries.
+pub list_none : (s : Schema) (t : MessageType) (bytes count rest : List ℕ) (n : ℕ) → type_of s ≡ seq t → bytes ≡ count ++ rest → n < 2 ^ 64
+    → SpellsNum 64 n count → HasNoFront s bytes → HasNoRow t n rest
+list_none s t bytes count rest n is cut low num none front after here (ts, (size, each), f) =
     none (count ++ front) after (cut ∙ ap (λ x. count ++ x) here ∙ sym (append_assoc count front after))
-    (rw (is, type_of_seq element) (Seq ts, (ts, refl, rw size low, each), (count, front, rw size num, f, refl)))
-
--- If no prefix encodes the map, no prefix after its count encodes the entries.
-pub map_none : (s : Schema) (k v : Box Schema Global) (bytes count rest : List ℕ) (n : ℕ) → s ≡ schemas.Map k v → bytes ≡ count ++ rest
-    → n < 2 ^ 64 → SpellsNum 64 n count → HasNoFront s bytes → HasNoRow (entry_of (type_of k.value) (type_of v.value)) n rest
-map_none s k v bytes count rest n is cut low num none front after here (ts, (size, each), f) =
-    none (count ++ front) after (cut ∙ ap (λ x. count ++ x) here ∙ sym (append_assoc count front after))
-    (rw (is, type_of_map k v) (Seq ts, (ts, refl, rw size low, each), (count, front, rw size num, f, refl)))
+    (subst (λ u. FrontSpells u (count ++ front)) (sym is) (Seq ts, (ts, refl, rw size low, each), (count, front, rw size num, f, refl)))
 
 -- If no prefix encodes the array, none encodes its elements.
 pub array_none : (s : Schema) (element : Box Schema Global) (bytes : List ℕ) (n : ℕ) → s ≡ schemas.Array element n → HasNoFront s bytes
@@ -129,16 +107,11 @@ pub array_none : (s : Schema) (element : Box Schema Global) (bytes : List ℕ) (
 array_none s element bytes n is none = λ front rest cut r.
     none front rest cut (rw (is, type_of_array element n) (Group r.0, (r.0, refl, r.1.0, r.1.1), r.2))
 
--- If a prefix encodes all parts in a row, it encodes the tuple.
-pub tuple_none : (s : Schema) (parts : Vec Schema Global) (bytes front rest : List ℕ) → s ≡ schemas.Tuple parts → bytes ≡ front ++ rest
-    → SpellsParts parts.items front
-    → HasNoFront s bytes → ⊥
-tuple_none s parts bytes front rest is cut (ts, r, f) none = none front rest cut (rw (is, type_of_tuple parts) (Group ts, (ts, refl, r), f))
-
--- If a prefix encodes all fields in a row, it encodes the struct.
-pub struct_none : (s : Schema) (fields : Vec (Named Schema) Global) (bytes front rest : List ℕ) → s ≡ schemas.Struct fields → bytes ≡ front ++ rest
-    → SpellsParts (contents fields.items) front → HasNoFront s bytes → ⊥
-struct_none s fields bytes front rest is cut (ts, r, f) none = none front rest cut (rw (is, type_of_struct fields) (Group ts, (ts, refl, r), f))
+-- If a prefix encodes all parts in a row, or all fields, it encodes the tuple or the struct.
+pub parts_none : (s : Schema) (ss : List Schema) (bytes front rest : List ℕ) → type_of s ≡ group (types_of ss) → bytes ≡ front ++ rest
+    → SpellsParts ss front → HasNoFront s bytes → ⊥
+parts_none s ss bytes front rest is cut (ts, r, f) none =
+    none front rest cut (subst (λ u. FrontSpells u front) (sym is) (Group ts, (ts, refl, r), f))
 
 -- If no prefix encodes the enum, no prefix after the variant's index encodes the variant's content.
 pub variant_none : (s : Schema) (variants : Vec (Named Schema) Global) (bytes index rest : List ℕ) (i : ℕ) (x : Named Schema)
@@ -178,16 +151,3 @@ pub variant_depth : (s : Schema) (variants : Vec (Named Schema) Global) (i : ℕ
     → i < length variants.items
     → x ≡ get_or variants.items i x → depth (type_of x.content) < depth (type_of s)
 variant_depth s variants i x is low found = rw (is, type_of_enum variants) (omega (arith, greatest_content variants.items i x low found))
-
-pub option_depth : (s : Schema) (b : Box Schema Global) → s ≡ schemas.Option b → depth (type_of b.value) < depth (type_of s)
-option_depth s b is = rw (is, type_of_option b) (omega arith)
-
-pub list_depth : (s : Schema) (b : Box Schema Global) → s ≡ schemas.Seq b → depth (type_of b.value) < depth (type_of s)
-list_depth s b is = rw (is, type_of_seq b) (omega arith)
-
-pub array_depth : (s : Schema) (b : Box Schema Global) (n : ℕ) → s ≡ schemas.Array b n → depth (type_of b.value) < depth (type_of s)
-array_depth s b n is = rw (is, type_of_array b n) (omega arith)
-
-pub entry_depth : (s : Schema) (k v : Box Schema Global) → s ≡ schemas.Map k v
-    → (depth (type_of k.value) < depth (type_of s)) × (depth (type_of v.value) < depth (type_of s))
-entry_depth s k v is = rw (is, type_of_map k v) (omega arith, omega arith)

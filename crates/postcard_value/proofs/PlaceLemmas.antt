@@ -4,13 +4,11 @@ use Rattle.std.specs.Prelude.{Box}
 use Rattle.std.specs.Borrow.{Bor}
 use Rattle.std.specs.declared.alloc.Global.{Global}
 use Rattle.postcard_wire.specs.Number.{SpellsNum}
-use Rattle.postcard_schema.specs.declared.path.Step.{Step}
-use Rattle.postcard_schema.specs.declared.path.Step.TheVariants.{Part, Element}
-use Rattle.postcard_schema.specs.declared.schema.Schema.{Schema}
 use Rattle.postcard_schema.specs.declared.schema.Schema.TheVariants as schemas
-use Rattle.postcard_value.specs.Fronts.{HasNoFront}
+use Rattle.postcard_schema.specs.Lemmas.{type_of_array, type_of_map, type_of_seq}
+use Rattle.postcard_value.specs.{Element, HasNoFront, Part, Schema, Step, type_of}
 use Rattle.postcard_value.specs.Refused.{Entered, StopsAt, StopsHere, here, inside, Finds, FindsElement, FindsEntry, in_list, in_array, in_key, in_value}
-use Rattle.postcard_value.proofs.FrontLemmas.{list_none, map_none, array_none, list_depth, array_depth, entry_depth}
+use Rattle.postcard_value.proofs.FrontLemmas.{list_none, array_none}
 
 -- What was found among the elements was found in the list.
 pub list_finds : (s : Schema) (element : Box Schema Global) (bytes count rest : List ℕ) (n : ℕ) → s ≡ schemas.Seq element → bytes ≡ count ++ rest
@@ -18,57 +16,35 @@ pub list_finds : (s : Schema) (element : Box Schema Global) (bytes count rest : 
     → SpellsNum 64 n count → (old new : List Step) (found : Option (Bor Schema × Bor (List ℕ))) → FindsElement element.value n rest old new found
     → Finds s bytes old new found
 list_finds s element bytes count rest n is cut few num old new None (row, same) =
-    (λ none. absurd (row (list_none s element bytes count rest n is cut few num none)), same)
+    (λ none. absurd (row (list_none s _ bytes count rest n (ap type_of is ∙ type_of_seq element) cut few num none)), same)
 list_finds s element bytes count rest n is cut few num old new (Some part) (i, front, low, each, more, join, lack, own) =
-    rw own (
-      (
-        count ++ front,
-        Element i ∷ [],
-        in_list s element n i count front is few num low each,
-        more,
-        cut ∙ ap (λ q. count ++ q) join ∙ sym (append_assoc count front part.1.now),
-        λ none. rw own at lack,
-      ),
-      list_depth s element is,
-    )
+    let whole = cut ∙ ap (λ q. count ++ q) join ∙ sym (append_assoc count front part.1.now) in
+    let entered = in_list s element n i count front is few num low each in
+    rw own ((count ++ front, Element i ∷ [], entered, more, whole, λ none. rw own at lack), rw (is, type_of_seq element) (omega arith))
 
 -- What was found among the elements was found in the array.
 pub array_finds : (s : Schema) (element : Box Schema Global) (bytes : List ℕ) (n : ℕ) → s ≡ schemas.Array element n → (old new : List Step)
     (found : Option (Bor Schema × Bor (List ℕ))) → FindsElement element.value n bytes old new found → Finds s bytes old new found
 array_finds s element bytes n is old new None (row, same) = (λ none. absurd (row (array_none s element bytes n is none)), same)
 array_finds s element bytes n is old new (Some part) (i, front, low, each, more, join, lack, own) =
-    rw own ((front, Element i ∷ [], in_array s element n i front is low each, more, join, λ none. rw own at lack), array_depth s element n is)
+    let entered = in_array s element n i front is low each in
+    rw own ((front, Element i ∷ [], entered, more, join, λ none. rw own at lack), rw (is, type_of_array element n) (omega arith))
 
 -- What was found among the entries was found in the map.
 pub map_finds : (s : Schema) (k v : Box Schema Global) (bytes count rest : List ℕ) (n : ℕ) → s ≡ schemas.Map k v → bytes ≡ count ++ rest → n < 2 ^ 64
     → SpellsNum 64 n count → (old new : List Step) (found : Option (Bor Schema × Bor (List ℕ))) → FindsEntry k.value v.value n rest old new found
     → Finds s bytes old new found
 map_finds s k v bytes count rest n is cut few num old new None (row, same) =
-    (λ none. absurd (row (map_none s k v bytes count rest n is cut few num none)), same)
+    (λ none. absurd (row (list_none s _ bytes count rest n (ap type_of is ∙ type_of_map k v) cut few num none)), same)
 map_finds s k v bytes count rest n is cut few num old new (Some part) (i, front, low, each, lack, inl (more, join, own)) =
-    rw own (
-      (
-        count ++ front,
-        Element i ∷ Part 0 ∷ [],
-        in_key s k v n i count front is few num low each,
-        more,
-        cut ∙ ap (λ q. count ++ q) join ∙ sym (append_assoc count front part.1.now),
-        λ none. rw own at lack,
-      ),
-      (entry_depth s k v is).0,
-    )
+    let whole = cut ∙ ap (λ q. count ++ q) join ∙ sym (append_assoc count front part.1.now) in
+    let entered = in_key s k v n i count front is few num low each in
+    rw own ((count ++ front, Element i ∷ Part 0 ∷ [], entered, more, whole, λ none. rw own at lack), rw (is, type_of_map k v) (omega arith))
 map_finds s k v bytes count rest n is cut few num old new (Some part) (i, front, low, each, lack, inr (key, spelled, more, join, own)) =
-    rw own (
-      (
-        count ++ (front ++ key),
-        Element i ∷ Part 1 ∷ [],
-        in_value s k v n i count front key is few num low each spelled,
-        more,
-        cut ∙ ap (λ q. count ++ q) join ∙ sym (append_assoc count (front ++ key) part.1.now),
-        λ none. rw own at lack,
-      ),
-      (entry_depth s k v is).1,
-    )
+    let done = front ++ key in
+    let whole = cut ∙ ap (λ q. count ++ q) join ∙ sym (append_assoc count done part.1.now) in
+    let entered = in_value s k v n i count front key is few num low each spelled in
+    rw own ((count ++ done, Element i ∷ Part 1 ∷ [], entered, more, whole, λ none. rw own at lack), rw (is, type_of_map k v) (omega arith))
 
 -- What was found, where it is known which of both it is.
 pub some_found : (s : Schema) (bytes : List ℕ) (old new : List Step) (found : Option (Bor Schema × Bor (List ℕ))) (part : Bor Schema × Bor (List ℕ))

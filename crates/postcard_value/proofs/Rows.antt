@@ -3,11 +3,8 @@ use Rattle.std.proofs.Common.{◌≡◌, ℕ, ◌+◌, ◌<◌, List, [], ◌∷
 use Rattle.std.proofs.lemmas.List.{drop_more}
 use Rattle.postcard_wire.specs.declared.error.Error.{Error}
 use Rattle.postcard_wire.specs.Tree.{Tree, Trees, Seq, Group, NoTrees, Then, trees}
-use Rattle.postcard_wire.specs.Spelling.{Spells, SpellsAll}
-use Rattle.postcard_wire.specs.Reading.{IsGroup}
 use Rattle.postcard_de_flavors.specs.Source.{Left, Laws}
 use Rattle.postcard_shape.specs.Lists.{EachIs, ListIs, AreRead}
-use Rattle.postcard_shape.specs.Shape.{memory}
 use Rattle.postcard_de.proofs.Lists.{prefixed}
 use Rattle.postcard_de.proofs.Parts.{part_and_rest}
 use Rattle.postcard_de_nodes.specs.Reads.{ReadsFrom}
@@ -15,10 +12,8 @@ use Rattle.postcard_de_nodes.specs.CompoundLemmas.{Compound, first_refused, seco
 use Rattle.postcard_de_nodes.specs.ReadLemmas.{refusal}
 use Rattle.postcard_de_nodes.specs.TakeLemmas.{nothing_taken}
 use Rattle.postcard_schema.specs.declared.schema.Named.{Named}
-use Rattle.postcard_schema.specs.declared.schema.Schema.{Schema}
 use Rattle.postcard_schema.specs.Meaning.{MessageType, contents, entry_of, no_types, reads, reads_all, then_type, type_of, types_of}
-use Rattle.postcard_value.specs.declared.value.Value.{Value}
-use Rattle.postcard_value.specs.Tree.{tree, IsTree}
+use Rattle.postcard_value.specs.{IsGroup, IsTree, Schema, Spells, SpellsAll, Value, memory, tree}
 
 -- ---- the trees of a list
 
@@ -126,8 +121,7 @@ module _ {S : Type 0} {left : S → Left} {able : S → ℕ → Type 0} {may_lea
       front = g.front;
       is_read = (g.thing, refl, g.is_read);
       is_spelled = g.is_spelled;
-      has = ap Group
-          (each_tree tree g.thing vs g.has) ∙ sym seen;
+      has = ap Group (each_tree tree g.thing vs g.has) ∙ sym seen;
       taken = g.taken;
     };
     accepts = λ t p a b c. let k = r.accepts a.0 p a.2 (rw a.1 at b) c in (a.1 ∙ (ap Group (each_tree tree a.0 vs k.0) ∙ sym seen), k.1);

@@ -11,7 +11,6 @@ use Rattle.postcard_schema.specs.declared.schema.Schema.{Schema}
 use Rattle.postcard_schema.specs.declared.schema.Schema.TheVariants as schemas
 use Rattle.postcard_schema.specs.Bounds.{depth}
 use Rattle.postcard_schema.specs.Meaning.{contents, entry_of, type_of}
-use Rattle.postcard_schema.specs.Paths.{path_text}
 use Rattle.postcard_value.specs.Fronts.{FrontSpells, HasNoCount, HasNoFront, HasNoIndex, HasNoRow, SpellsEach, SpellsParts}
 
 -- The schema is a list or a map.
@@ -69,10 +68,6 @@ pub data StopsAt : Schema → List ℕ → List Step → ℕ → Type 0 where
 -- Reading a value of the schema from the bytes stops at the part with this path and this offset. The path is empty for the whole value.
 abbrev pub IsRefusedAt : Schema → List ℕ → List Step → ℕ → Type 0
 IsRefusedAt = StopsAt
-
--- Reading stops at the part whose path has this text.
-abbrev pub IsPathOf : Schema → List ℕ → List ℕ → Type 0
-IsPathOf schema bytes text = (path : List Step) × (offset : ℕ) × IsRefusedAt schema bytes path offset × (text ≡ path_text path)
 
 -- The steps from `old` to `new` lead from a value of the schema at the start of the bytes to a part of it. The part is of the schema x, and
 -- its bytes are at the start of `rest`. If the value can't be read, the part can't.

@@ -1,15 +1,19 @@
--- Blanks before a value without parts: they may come before its text, and its text may stand without them.
-use Rattle.std.proofs.Common.{◌≡◌, ℕ, ◌<◌, false, List, [], ◌∷◌, length, codes, refl, ◌∙◌, arith, inl, inr}
+-- Blanks before a value without parts, or before a field's name: they may come before its text, and its text may stand without them. Only
+-- one form of a name can stand at one place, and one text remains after it.
+use Rattle.std.proofs.Common.{◌≡◌, ℕ, ◌<◌, false, List, [], ◌∷◌, length, codes, refl, ◌∙◌, arith, inl, inr, ◌≢◌, Bor, ◌++◌, sym, ap, true≢false, ◌⊎◌}
 use Rattle.std.specs.Char.{is_ascii_whitespace}
 use Rattle.std.specs.Float.{Format}
 use Rattle.std.specs.Str.{IsTrimAsciiStart}
-use Rattle.postcard_schema_text.specs.Text.{AreBlank, Led, Then, TakesPhrase, IsSign, IsWord, EndsWord}
-use Rattle.postcard_schema_text.specs.FrontLemmas.{trim_is, takes_split, next_sign, word_unblank, same_word, WordTaken}
+use Rattle.postcard_schema_text.specs.Text.{AreBlank, Led, Then, TakesPhrase, IsSign, IsWord, EndsWord, is_of_word}
+use Rattle.postcard_schema_text.specs.FrontLemmas.{trim_is, takes_split, next_sign, word_unblank, same_word, WordTaken, pass_head, same_first, same_rest, sign_unblank}
 use Rattle.postcard_schema_text.specs.Phrases.{takes_two, takes_as, led_more, trim_takes, word_more}
+use Rattle.std.specs.Prelude.{Option, Some, None, IfSome, IfNone, MatchOption}
+use Rattle.std.proofs.lemmas.List.{append_assoc, append_cancel_left}
 use Rattle.postcard_value_text.specs.Floats.{IsFloatWord, IsHexadecimal, SpellsFloat}
 use Rattle.postcard_value_text.specs.Quoted.{ArePieces, IsQuoted, IsByteString}
-use Rattle.postcard_value_text.specs.Spelled.{Phrase}
-use Rattle.postcard_value_text.proofs.FloatFronts.{number_first}
+use Rattle.postcard_value_text.specs.Spelled.{Phrase, IsQuotedName, IsFieldName}
+use Rattle.postcard_value_text.proofs.FloatTexts.{float_scalars}
+use Rattle.postcard_value_text.proofs.Fronts.{scalar_trimmed, one_rest}
 
 -- ---- words
 
@@ -69,11 +73,76 @@ bytes_trimmed bytes a b r trim (front, (digits, held, word), whole) =
 
 pub float_trimmed : (f : Format) (bits : ℕ) (a b r : List ℕ) → IsTrimAsciiStart a b → TakesPhrase (SpellsFloat f bits) a r → TakesPhrase (SpellsFloat f bits) b r
 float_trimmed f bits a b r trim (front, inl p, whole) =
-    let k = number_first f bits a r (front, p, whole) in
-    (k.word, inl ([], k.word, no_blanks, k.reads, refl), trim_is a b trim ∙ k.first)
+    takes_as (Led (IsFloatWord f bits)) (SpellsFloat f bits) b r (λ t k. inl k)
+    (scalar_trimmed (IsFloatWord f bits) a b r (float_scalars f bits) trim (front, p, whole))
 float_trimmed f bits a b r trim (front, inr p, whole) =
     let named = IsWord (codes "nan") in
     let Q : Phrase = Then (IsSign 40) (Then (IsHexadecimal bits) (IsSign 41)) in
     let k = takes_split named Q a r (front, p.1, whole) in
     let all = takes_two named Q b k.0 r (word_trimmed (codes "nan") a b k.0 trim (omega arith) k.1) k.2 in
     (all.0, inr (p.0, all.1), all.2)
+
+-- ---- names of fields: a word, `label`, or the word between double quotes, `"label"`
+
+-- The remaining bytes of a name and the quote after it.
+abbrev ended : List ℕ → Phrase
+ended name = λ end. end ≡ name ++ 34 ∷ []
+
+-- A text that begins with a field's name begins with it once the blanks before it are dropped.
+pub field_trimmed : (name a b r : List ℕ) → IsTrimAsciiStart a b → 0 < length name → TakesPhrase (IsFieldName name) a r → TakesPhrase (IsFieldName name) b r
+field_trimmed name a b r trim some (front, inl word, whole) =
+    let k = word_trimmed name a b r trim some (front, word, whole) in
+    (k.0, inl k.1, k.2)
+field_trimmed name a b r trim some (front, inr quoted, whole) =
+    let k = takes_split (IsSign 34) (ended name) a r (front, quoted, whole) in
+    let all = takes_two (IsSign 34) (ended name) b k.0 r (34 ∷ [], ([], 34 ∷ [], (λ i d low. absurd (omega (arith, low))), refl, refl), next_sign 34 a b k.0 trim refl k.1) k.2 in
+    (all.0, inr all.1, all.2)
+
+-- Blanks before a text that begins with a field's name may be added: it still begins with the name.
+pub field_more : (name a b c : List ℕ) → IsTrimAsciiStart a b → TakesPhrase (IsFieldName name) b c → TakesPhrase (IsFieldName name) a c
+field_more name a b c trim (front, inl word, whole) =
+    let k = word_more name a b c trim (front, word, whole) in
+    (k.0, inl k.1, k.2)
+field_more name a b c trim (front, inr quoted, whole) =
+    let k = led_then (λ phrase. phrase ≡ 34 ∷ []) (ended name) a b c trim (front, quoted, whole) in
+    (k.0, inr k.1, k.2)
+
+-- A field's name in a text is the word alone, or the word between quotes.
+pub field_is : (name a r : List ℕ) → TakesPhrase (IsFieldName name) a r → TakesPhrase (IsWord name) a r ⊎ TakesPhrase (IsQuotedName name) a r
+field_is name a r (front, inl word, whole) = inl (front, word, whole)
+field_is name a r (front, inr quoted, whole) = inr (front, quoted, whole)
+
+-- No text begins with the name as a word and with the name in quotes, since a quote begins no word.
+pub word_or_quote : (name a r q : List ℕ) → 0 < length name → TakesPhrase (IsWord name) a r → TakesPhrase (IsQuotedName name) a q → ⊥
+word_or_quote [] a r q some h k = absurd (omega (arith, some))
+word_or_quote (x ∷ name) a r q some (front, (pass, led), whole) k =
+    let s = takes_split (IsSign 34) (ended (x ∷ name)) a q k in
+    let same : x ≡ 34 = same_first (sym (word_unblank x name a r (front, (pass, led), whole)) ∙ sign_unblank 34 a s.0 refl s.1) in
+    true≢false (sym (pass_head is_of_word x name pass) ∙ ap is_of_word same)
+
+-- A text has one remaining text after the name and the quote.
+pub same_left : (name x y m : List ℕ) → m ≡ name ++ 34 ∷ x → m ≡ name ++ 34 ∷ y → x ≡ y
+same_left name x y m e f = same_rest (append_cancel_left name (34 ∷ x) (34 ∷ y) (sym e ∙ f))
+
+-- The quote, the name and the quote.
+pub quoted_taken : (name a m r : List ℕ) → TakesPhrase (IsSign 34) a m → m ≡ name ++ 34 ∷ r → TakesPhrase (IsQuotedName name) a r
+quoted_taken name a m r sign e = takes_two (IsSign 34) (ended name) a m r sign (name ++ 34 ∷ [], refl, e ∙ sym (append_assoc name (34 ∷ []) r))
+
+-- What is left after the first quote.
+pub quoted_left : (name a m r : List ℕ) → TakesPhrase (IsSign 34) a m → TakesPhrase (IsQuotedName name) a r → m ≡ name ++ 34 ∷ r
+quoted_left name a m r sign h =
+    let k = takes_split (IsSign 34) (ended name) a r h in
+    let (front, is, whole) = k.2 in
+    one_rest 34 a m k.0 refl sign k.1 ∙ whole ∙ ap (λ t. t ++ r) is ∙ append_assoc name (34 ∷ []) r
+
+-- The quote after the name.
+pub quote_found : (text name x : List ℕ) (r : Option (Bor (List ℕ))) → text ≡ name ++ x → MatchOption r ((rest : List ℕ) → x ≢ (34 ∷ []) ++ rest) (λ y. x ≡ (34 ∷ []) ++ y.now)
+    → IfSome r (λ after. text ≡ name ++ 34 ∷ after.now)
+quote_found text name x None e m = tt
+quote_found text name x (Some y) e m = e ∙ ap (λ t. name ++ t) m
+
+-- If no quote follows the name, the text doesn't begin with the name and a quote.
+pub quote_none : (text name x : List ℕ) (r : Option (Bor (List ℕ))) → text ≡ name ++ x → MatchOption r ((rest : List ℕ) → x ≢ (34 ∷ []) ++ rest) (λ y. x ≡ (34 ∷ []) ++ y.now)
+    → IfNone r ((after : List ℕ) → text ≡ name ++ 34 ∷ after → ⊥)
+quote_none text name x None e m = λ after is. m after (append_cancel_left name x (34 ∷ after) (sym e ∙ is))
+quote_none text name x (Some y) e m = tt

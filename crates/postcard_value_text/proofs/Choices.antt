@@ -1,36 +1,28 @@
 -- Reading options and variants: a word, and what stands after it.
-use Rattle.std.proofs.Common.{◌≡◌, ◌≢◌, ℕ, zero, suc, ◌+◌, ◌<◌, ◌^◌, true, false, List, [], ◌∷◌, length, get_or, codes, string_bytes, refl, sym, ap, subst, ◌∙◌, arith, ◌⊎◌, inl, inr}
+use Rattle.std.proofs.Common.{◌≡◌, ◌≢◌, ℕ, Bool, zero, suc, ◌+◌, ◌<◌, ◌^◌, true, false, List, [], ◌∷◌, length, get_or, codes, string_bytes, refl, sym, ap, subst, ◌∙◌, true≢false, arith, inl, inr}
 use Rattle.std.specs.Prelude.{Result, Ok, Err}
 use Rattle.std.specs.Str.{IsTrimAsciiStart}
+use borrow.Author.Count.{below_more}
 use Rattle.std.proofs.lemmas.List.{get_or_default}
 use Rattle.std.proofs.lemmas.Result.{IfOk-weaker}
 use Rattle.postcard_wire.specs.Tree.{Tree, NoTrees}
 use Rattle.postcard_wire.specs.Tree as nodes
-use Rattle.postcard_wire.specs.Reading.{IsOption, IsVariant}
-use Rattle.postcard_schema.specs.declared.schema.Named.{Named}
-use Rattle.postcard_schema.specs.declared.schema.Schema.{Schema}
 use Rattle.postcard_schema.specs.Lemmas.{content_at}
-use Rattle.postcard_schema.specs.Meaning.{contents, reads, reads_at, type_of, types_of}
-use Rattle.postcard_schema_text.specs.Text.{Then, TakesPhrase, IsSign, IsWord, EndsWord}
 use Rattle.postcard_schema_text.specs.FrontLemmas.{takes_split, same_first, sign_ends_word, word_unblank, WordTaken}
 use Rattle.postcard_schema_text.specs.Phrases.{takes_two, word_more}
 use Rattle.postcard_value.specs.declared.value.Value.{Value}
-use Rattle.postcard_value.specs.Tree.{tree}
+use Rattle.postcard_value_text.specs.{EndsWord, IsOption, IsSign, IsVariant, IsWord, Named, Schema, TakesPhrase, Then, contents, reads, reads_at}
+use Rattle.postcard_value_text.specs.{tree, type_of, types_of}
 use Rattle.postcard_value_text.specs.declared.error.Stop.{Stop}
 use Rattle.postcard_value_text.specs.Accepted.{AreNamed, AreNotCalled, FollowsValue, HasDistinctNames, NamesDiffer, ReadsAs, ReadsText, ReadsTree}
 use Rattle.postcard_value_text.specs.Layout.{Layout, tuple, structure, no_layouts, then_layout, fields_of, has_brackets, is_unit, layout_of}
-use Rattle.postcard_value_text.specs.Spelled.{Speller, AreClosed, SpellsAt, SpellsChoice, SpellsContent, SpellsOption, SpellsTree, field_phrases, part_phrases}
+use Rattle.postcard_value_text.specs.Spelled.{Speller, AreClosed, InParentheses, option_word, SpellsAt, SpellsChoice, SpellsContent, SpellsOption, SpellsTree, field_phrases, part_phrases}
 use Rattle.postcard_value_text.proofs.Blanks.{one_word, word_trimmed}
-use Rattle.postcard_value_text.proofs.Fronts.{goes_word, sign_follows}
+use Rattle.postcard_value_text.proofs.Fronts.{goes_word, sign_follows, none_taken}
 use Rattle.postcard_value_text.proofs.Groups.{named_at}
-use Rattle.postcard_value_text.proofs.Readers.{Misses, after_phrase, before_phrase, missed_after, phrase_missed, read_more, refused, refused_before, spelled_as, took_sign}
-use Rattle.postcard_value_text.proofs.Signs.{none_taken}
+use Rattle.postcard_value_text.proofs.Readers.{Misses, after_phrase, before_phrase, missed_after, phrase_missed, read_more, refused, refused_before, took_sign}
 
 -- ---- parentheses
-
--- The text is that of a value in `(` and `)`.
-abbrev pub InParentheses : Speller → Speller
-InParentheses S t = Then (IsSign 40) (Then (S t) (IsSign 41))
 
 module _ {N : Type 0} {R : Tree → Type 0} (S : Speller) {a : List ℕ} where
   pub unopened : {b : List ℕ} (e : Stop) → Misses (IsSign 40) a → ReadsTree N R (InParentheses S) a (Err e) b
@@ -51,79 +43,74 @@ module _ {N : Type 0} {R : Tree → Type 0} (S : Speller) {a : List ℕ} where
 
 -- ---- options
 
--- A word of this name that ends there is not next.
-abbrev pub NoWord : List ℕ → List ℕ → Type 0
-NoWord word a = (x : List ℕ) → TakesPhrase (IsWord word) a x → EndsWord x → ⊥
-
--- The text after that word is `b`.
-abbrev pub OneWord : List ℕ → List ℕ → List ℕ → Type 0
-OneWord word a b = (x : List ℕ) → TakesPhrase (IsWord word) a x → EndsWord x → b ≡ x
-
 -- `None` and `Some` are not both next.
 none_or_some : (a r q : List ℕ) → TakesPhrase (IsWord (codes "None")) a r → TakesPhrase (IsWord (codes "Some")) a q → ⊥
 none_or_some a r q h k =
     let e : 78 ≡ 83 = same_first (sym (word_unblank 78 (111 ∷ 110 ∷ 101 ∷ []) a r h) ∙ word_unblank 83 (111 ∷ 109 ∷ 101 ∷ []) a q k) in
     omega (arith, e)
 
--- `Some`, and the content in parentheses.
-record SomeFront (S : Speller) (R : Tree → Type 0) (t : Tree) (b x : List ℕ) : Type 0 where
-  content : Tree
-  after : List ℕ
-  whole : t ≡ nodes.Present content
-  is : R content
-  word : TakesPhrase (IsWord (codes "Some")) b after
-  ends : EndsWord after
-  left : TakesPhrase (InParentheses S content) after x
+-- A word that ends there, and with which an option begins, is this one, and `m` is left after it.
+abbrev pub OneOption : Bool → List ℕ → List ℕ → Type 0
+OneOption some a m = (other : Bool) (x : List ℕ) → TakesPhrase (IsWord (option_word other)) a x → EndsWord x → (some ≡ other) × (m ≡ x)
 
-option_front : (S : Speller) (R : Tree → Type 0) (t : Tree) (a b x : List ℕ) → IsTrimAsciiStart a b → IsOption R t → TakesPhrase (SpellsOption S t) a x
-    → ((t ≡ nodes.Absent) × TakesPhrase (IsWord (codes "None")) b x) ⊎ SomeFront S R t b x
-option_front S R t a b x trim (inl is) h = inl (is, word_trimmed (codes "None") a b x trim (omega arith) (subst (λ s. TakesPhrase (SpellsOption S s) a x) is h))
-option_front S R t a b x trim (inr (s, whole, is)) h =
+-- The word that was taken after blanks is the only one there.
+pub option_one : (some : Bool) (a b m : List ℕ) → IsTrimAsciiStart a b → TakesPhrase (IsWord (option_word some)) b m
+    → ((x : List ℕ) → TakesPhrase (IsWord (option_word some)) b x → EndsWord x → m ≡ x) → OneOption some a m
+option_one true a b m trim taken one true x h ends = (refl, one x (word_trimmed (codes "Some") a b x trim (omega arith) h) ends)
+option_one true a b m trim taken one false x h ends = absurd (none_or_some b x m (word_trimmed (codes "None") a b x trim (omega arith) h) taken)
+option_one false a b m trim taken one true x h ends = absurd (none_or_some b m x taken (word_trimmed (codes "Some") a b x trim (omega arith) h))
+option_one false a b m trim taken one false x h ends = (refl, one x (word_trimmed (codes "None") a b x trim (omega arith) h) ends)
+
+-- No option begins the text if neither word does after blanks.
+pub option_none : (a b : List ℕ) → IsTrimAsciiStart a b → ((x : List ℕ) → TakesPhrase (IsWord (codes "Some")) b x → EndsWord x → ⊥)
+    → ((x : List ℕ) → TakesPhrase (IsWord (codes "None")) b x → EndsWord x → ⊥)
+    → (some : Bool) (x : List ℕ) → TakesPhrase (IsWord (option_word some)) a x → EndsWord x → ⊥
+option_none a b trim one other true x h ends = one x (word_trimmed (codes "Some") a b x trim (omega arith) h) ends
+option_none a b trim one other false x h ends = other x (word_trimmed (codes "None") a b x trim (omega arith) h) ends
+
+-- What is left after the first word of an option.
+abbrev OptionLeft : Speller → (Tree → Type 0) → Bool → Tree → List ℕ → List ℕ → Type 0
+OptionLeft S R true t m x = (s : Tree) × (t ≡ nodes.Present s) × R s × TakesPhrase (InParentheses S s) m x
+OptionLeft S R false t m x = (t ≡ nodes.Absent) × (m ≡ x)
+
+option_front : (S : Speller) (R : Tree → Type 0) (t : Tree) (a x : List ℕ) → IsOption R t → TakesPhrase (SpellsOption S t) a x → FollowsValue x
+    → (some : Bool) × (m : List ℕ) × TakesPhrase (IsWord (option_word some)) a m × EndsWord m × OptionLeft S R some t m x
+option_front S R t a x (inl is) h goes = (false, x, subst (λ s. TakesPhrase (SpellsOption S s) a x) is h, goes_word x goes, (is, refl))
+option_front S R t a x (inr (s, whole, is)) h goes =
     let k = takes_split (IsWord (codes "Some")) (InParentheses S s) a x (subst (λ u. TakesPhrase (SpellsOption S u) a x) whole h) in
     let sign = takes_split (IsSign 40) (Then (S s) (IsSign 41)) k.0 x k.2 in
-    inr record {
-      content = s;
-      after = k.0;
-      whole = whole;
-      is = is;
-      word = word_trimmed (codes "Some") a b k.0 trim (omega arith) k.1;
-      ends = sign_ends_word 40 k.0 sign.0 refl sign.1;
-      left = k.2;
-    }
+    (true, k.0, k.1, sign_ends_word 40 k.0 sign.0 refl sign.1, (s, whole, is, k.2))
 
-some_front : (S : Speller) (R : Tree → Type 0) (t : Tree) (a b x : List ℕ) → IsTrimAsciiStart a b → NoWord (codes "None") b → IsOption R t → TakesPhrase (SpellsOption S t) a x → FollowsValue x
-    → SomeFront S R t b x
-some_front S R t a b x trim none is h goes = elim (option_front S R t a b x trim is h) [
-  | inl k ↦ absurd (none x k.1 (goes_word x goes))
-  | inr f ↦ f
-]
+left_after : (S : Speller) (R : Tree → Type 0) {some : Bool} {a m : List ℕ} → OneOption some a m → (t : Tree) (x : List ℕ) → IsOption R t
+    → TakesPhrase (SpellsOption S t) a x → FollowsValue x → OptionLeft S R some t m x
+left_after S R {some} {a} {m} one t x is h goes =
+    let f = option_front S R t a x is h goes in
+    let same = one f.0 f.1 f.2 f.3 in
+    subst (λ y. OptionLeft S R some t y x) (sym same.1) (subst (λ b. OptionLeft S R b t f.1 x) (sym same.0) f.4)
 
-module _ {N : Type 0} {R : Tree → Type 0} (S : Speller) {a b : List ℕ} (trim : IsTrimAsciiStart a b) where
-  pub none_read : {m : List ℕ} (w : Value) → tree w ≡ nodes.Absent → TakesPhrase (IsWord (codes "None")) b m → OneWord (codes "None") b m → ReadsTree N (IsOption R) (SpellsOption S) a (Ok w) m
+module _ {N : Type 0} {R : Tree → Type 0} (S : Speller) {a : List ℕ} where
+  pub option_missed : {m : List ℕ} (e : Stop) → ((some : Bool) (x : List ℕ) → TakesPhrase (IsWord (option_word some)) a x → EndsWord x → ⊥)
+      → ReadsTree N (IsOption R) (SpellsOption S) a (Err e) m
+  option_missed e none = refused (λ names t x is h goes. let f = option_front S R t a x is h goes in none f.0 f.1 f.2 f.3)
+
+  pub none_read : {m : List ℕ} (w : Value) → tree w ≡ nodes.Absent → TakesPhrase (IsWord (codes "None")) a m → OneOption false a m
+      → ReadsTree N (IsOption R) (SpellsOption S) a (Ok w) m
   none_read {m} w seen taken one = record {
     value = inl seen;
-    spelled = subst (λ t. TakesPhrase (SpellsOption S t) a m) (sym seen) (word_more (codes "None") a b m trim taken);
-    accepted = λ names t x is h goes. elim (option_front S R t a b x trim is h) [
-      | inl k ↦ (k.0 ∙ sym seen, one x k.1 (goes_word x goes))
-      | inr f ↦ absurd (none_or_some b m f.after taken f.word)
-    ];
+    spelled = subst (λ t. TakesPhrase (SpellsOption S t) a m) (sym seen) taken;
+    accepted = λ names t x is h goes. let k = left_after S R one t x is h goes in (k.0 ∙ sym seen, k.1);
   }
 
-  module _ (none : NoWord (codes "None") b) where
-    pub option_missed : {m : List ℕ} (e : Stop) → NoWord (codes "Some") b → ReadsTree N (IsOption R) (SpellsOption S) a (Err e) m
-    option_missed e other = refused (λ names t x is h goes. let f = some_front S R t a b x trim none is h goes in other f.after f.word f.ends)
-
-    module _ {m c : List ℕ} (taken : TakesPhrase (IsWord (codes "Some")) b m) (one : OneWord (codes "Some") b m) where
-      pub some_read : (r : Result Value Stop) → ReadsTree N R (InParentheses S) m r c → ReadsText (λ v. nodes.Present (tree v)) N (IsOption R) (SpellsOption S) a r c
-      some_read r h = record {
-        value = IfOk-weaker r (λ v. R (tree v)) (λ v. IsOption R (nodes.Present (tree v))) (λ v k. inr (tree v, refl, k)) h.value;
-        spelled = IfOk-weaker r (λ v. TakesPhrase (InParentheses S (tree v)) m c) (λ v. TakesPhrase (SpellsOption S (nodes.Present (tree v))) a c)
-            (λ v k. takes_two (IsWord (codes "Some")) (InParentheses S (tree v)) a m c (word_more (codes "Some") a b m trim taken) k) h.spelled;
-        accepted = λ names t x is k goes.
-            let f = some_front S R t a b x trim none is k goes in
-            let left = subst (λ y. TakesPhrase (InParentheses S f.content) y x) (sym (one f.after f.word f.ends)) f.left in
-            read_more r c x (λ v same. f.whole ∙ ap nodes.Present same) (h.accepted names f.content x f.is left goes);
-      }
+  pub some_read : {m c : List ℕ} (r : Result Value Stop) → TakesPhrase (IsWord (codes "Some")) a m → OneOption true a m
+      → ReadsTree N R (InParentheses S) m r c → ReadsText (λ v. nodes.Present (tree v)) N (IsOption R) (SpellsOption S) a r c
+  some_read {m} {c} r taken one h = record {
+    value = IfOk-weaker r (λ v. R (tree v)) (λ v. IsOption R (nodes.Present (tree v))) (λ v k. inr (tree v, refl, k)) h.value;
+    spelled = IfOk-weaker r (λ v. TakesPhrase (InParentheses S (tree v)) m c) (λ v. TakesPhrase (SpellsOption S (nodes.Present (tree v))) a c)
+        (λ v k. takes_two (IsWord (codes "Some")) (InParentheses S (tree v)) a m c taken k) h.spelled;
+    accepted = λ names t x is k goes.
+        let f = left_after S R one t x is k goes in
+        read_more r c x (λ v same. f.1 ∙ ap nodes.Present same) (h.accepted names f.0 x f.2 f.3 goes);
+  }
 
 -- ---- the content of a variant
 
@@ -143,53 +130,37 @@ content_ends_word x t a r goes h =
     sign_ends_word 40 a k.0 refl k.1
 
 -- The three forms of a content: nothing, a text with brackets of its own, or a text in parentheses.
-unit_taken : (x : Layout) (S : Speller) (t : Tree) (a : List ℕ) → is_unit x ≡ true → t ≡ nodes.Group NoTrees → TakesPhrase (SpellsContent x S t) a a
-unit_taken (tuple no_layouts) S t a unit is = ([], (is, refl), refl)
-unit_taken (tuple (then_layout x xs)) S t a unit is = cc unit
-unit_taken x S t a unit is = cc unit
+unit_is : (x : Layout) → is_unit x ≡ true → x ≡ tuple no_layouts
+unit_is (tuple no_layouts) unit = refl
+unit_is (tuple (then_layout x xs)) unit = absurd (true≢false (sym unit))
+unit_is x unit = absurd (true≢false (sym unit))
 
-unit_left : (x : Layout) (S : Speller) (t : Tree) (a r : List ℕ) → is_unit x ≡ true → TakesPhrase (SpellsContent x S t) a r → (t ≡ nodes.Group NoTrees) × (a ≡ r)
-unit_left (tuple no_layouts) S t a r unit (front, (is, none), whole) = (is, none_taken a r (front, none, whole))
-unit_left (tuple (then_layout x xs)) S t a r unit h = cc unit
-unit_left x S t a r unit h = cc unit
+own_brackets : (x : Layout) (S : Speller) → is_unit x ≡ false → has_brackets x ≡ true → SpellsContent x S ≡ S
+own_brackets (tuple no_layouts) S full own = absurd (true≢false full)
+own_brackets (tuple (then_layout x xs)) S full own = refl
+own_brackets (structure fs) S full own = refl
+own_brackets x S full own = absurd (true≢false (sym own))
 
-own_brackets : (x : Layout) (S : Speller) (t : Tree) (a r : List ℕ) → is_unit x ≡ false → has_brackets x ≡ true → TakesPhrase (S t) a r → TakesPhrase (SpellsContent x S t) a r
-own_brackets (tuple no_layouts) S t a r full own h = cc full
-own_brackets (tuple (then_layout x xs)) S t a r full own h = h
-own_brackets (structure fs) S t a r full own h = h
-own_brackets x S t a r full own h = cc own
-
-from_brackets : (x : Layout) (S : Speller) (t : Tree) (a r : List ℕ) → is_unit x ≡ false → has_brackets x ≡ true → TakesPhrase (SpellsContent x S t) a r → TakesPhrase (S t) a r
-from_brackets (tuple no_layouts) S t a r full own h = cc full
-from_brackets (tuple (then_layout x xs)) S t a r full own h = h
-from_brackets (structure fs) S t a r full own h = h
-from_brackets x S t a r full own h = cc own
-
-to_parentheses : (x : Layout) (S : Speller) (t : Tree) (a r : List ℕ) → has_brackets x ≡ false → TakesPhrase (InParentheses S t) a r → TakesPhrase (SpellsContent x S t) a r
-to_parentheses (tuple no_layouts) S t a r other h = cc other
-to_parentheses (tuple (then_layout x xs)) S t a r other h = cc other
-to_parentheses (structure fs) S t a r other h = cc other
-to_parentheses x S t a r other h = h
-
-from_parentheses : (x : Layout) (S : Speller) (t : Tree) (a r : List ℕ) → has_brackets x ≡ false → TakesPhrase (SpellsContent x S t) a r → TakesPhrase (InParentheses S t) a r
-from_parentheses (tuple no_layouts) S t a r other h = cc other
-from_parentheses (tuple (then_layout x xs)) S t a r other h = cc other
-from_parentheses (structure fs) S t a r other h = cc other
-from_parentheses x S t a r other h = h
+in_parentheses : (x : Layout) (S : Speller) → has_brackets x ≡ false → SpellsContent x S ≡ InParentheses S
+in_parentheses (tuple xs) S other = absurd (true≢false other)
+in_parentheses (structure fs) S other = absurd (true≢false other)
+in_parentheses x S other = refl
 
 module _ {N : Type 0} {R : Tree → Type 0} (x : Layout) (S : Speller) {a : List ℕ} where
   pub unit_read : (w : Value) → tree w ≡ nodes.Group NoTrees → R (nodes.Group NoTrees) → is_unit x ≡ true → ReadsTree N R (SpellsContent x S) a (Ok w) a
-  unit_read w seen is unit = record {
+  unit_read w seen is unit = rw (unit_is x unit) (record {
     value = subst R (sym seen) is;
-    spelled = unit_taken x S (tree w) a unit seen;
-    accepted = λ names t y r h goes. let k = unit_left x S t a y unit h in (k.0 ∙ sym seen, k.1);
-  }
+    spelled = ([], (seen, refl), refl);
+    accepted = λ names t y r (front, (nothing, none), whole) goes. (nothing ∙ sym seen, none_taken a y (front, none, whole));
+  })
 
-  pub brackets_read : {b : List ℕ} (r : Result Value Stop) → is_unit x ≡ false → has_brackets x ≡ true → ReadsTree N R S a r b → ReadsTree N R (SpellsContent x S) a r b
-  brackets_read r full own h = spelled_as tree N R S (SpellsContent x S) r (λ t y k. own_brackets x S t a y full own k) (λ t y k. from_brackets x S t a y full own k) h
+  pub brackets_read : {b : List ℕ} (r : Result Value Stop) → is_unit x ≡ false → has_brackets x ≡ true → ReadsTree N R S a r b
+      → ReadsTree N R (SpellsContent x S) a r b
+  brackets_read {b} r full own h = subst (λ Q. ReadsTree N R Q a r b) (sym (own_brackets x S full own)) h
 
-  pub parentheses_read : {b : List ℕ} (r : Result Value Stop) → has_brackets x ≡ false → ReadsTree N R (InParentheses S) a r b → ReadsTree N R (SpellsContent x S) a r b
-  parentheses_read r other h = spelled_as tree N R (InParentheses S) (SpellsContent x S) r (λ t y k. to_parentheses x S t a y other k) (λ t y k. from_parentheses x S t a y other k) h
+  pub parentheses_read : {b : List ℕ} (r : Result Value Stop) → has_brackets x ≡ false → ReadsTree N R (InParentheses S) a r b
+      → ReadsTree N R (SpellsContent x S) a r b
+  parentheses_read {b} r other h = subst (λ Q. ReadsTree N R Q a r b) (sym (in_parentheses x S other)) h
 
 -- ---- variants
 
@@ -244,18 +215,13 @@ one_index ns i k name n differ h low here is =
     let not_before : k < i → ⊥ = λ before. one_before name ns k i f.0 n differ before low f.1 f.2 here is in
     omega (arith, not_after, not_before)
 
-below_or_at : (k i : ℕ) → k < i + 1 → (k < i) ⊎ (k ≡ i)
-below_or_at k i low = grind (arith, low)
-
 -- If neither the variants before index i nor variant i has the name, no variant before i + 1 has it.
 pub not_called_more : (name : List ℕ) (ns : List (Named Schema)) (i : ℕ) (n : Named Schema) → i < length ns → ((k : ℕ) (m : Named Schema) → k < i → m ≡ get_or ns k m → string_bytes m.name ≢ name)
     → n ≡ get_or ns i n → string_bytes n.name ≢ name → (k : ℕ) (m : Named Schema) → k < i + 1 → m ≡ get_or ns k m → string_bytes m.name ≢ name
-not_called_more name ns i n within before here none k m low is = elim (below_or_at k i low) [
-  | inl less ↦ before k m less is
-  | inr same ↦
-      let one : m ≡ n = is ∙ ap (λ j. get_or ns j m) same ∙ get_or_default ns i m n within ∙ sym here in
-      subst (λ z. string_bytes z.name ≢ name) (sym one) none
-]
+not_called_more name ns i n within before here none k m low is =
+    let at : m ≡ get_or ns i m → string_bytes m.name ≢ name =
+    λ own. subst (λ z. string_bytes z.name ≢ name) (sym (own ∙ get_or_default ns i m n within ∙ sym here)) none in
+    below_more (λ j. m ≡ get_or ns j m → string_bytes m.name ≢ name) i (λ j less own. before j m less own) at k low is
 
 same_variant : (ns : List (Named Schema)) (k : ℕ) (n u : Named Schema) → n ≡ get_or ns k n → k < length ns → u ≡ get_or ns k u → u ≡ n
 same_variant ns k n u here low is = is ∙ get_or_default ns k u n low ∙ sym here

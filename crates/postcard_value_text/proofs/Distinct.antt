@@ -1,9 +1,7 @@
 -- In a type that an expression denotes, names tell its values apart.
-use Rattle.std.proofs.Common.{◌≡◌, ℕ, zero, suc, ◌<◌, List, [], ◌∷◌, length, codes, string_bytes, sym, ap, subst, ◌∙◌, arith, inl, inr}
+use Rattle.std.proofs.Common.{◌≡◌, ℕ, zero, suc, ◌<◌, List, [], ◌∷◌, length, codes, string_bytes, sym, subst, arith, inl, inr}
 use Rattle.std.proofs.lemmas.List.Elements.{All-head, All-tail}
 use Rattle.postcard_schema.specs.declared.leaf.Leaf.TheVariants as leaves
-use Rattle.postcard_schema.specs.declared.schema.Named.{Named}
-use Rattle.postcard_schema.specs.declared.schema.Schema.{Schema}
 use Rattle.postcard_schema_text.specs.declared.angled.Holder.{Holder}
 use Rattle.postcard_schema_text.specs.declared.angled.Holder.TheVariants as holders
 use Rattle.postcard_schema_text.specs.declared.angled.Pair.{Pair}
@@ -13,9 +11,9 @@ use Rattle.postcard_schema_text.specs.declared.names.TypeName.TheVariants as nam
 use Rattle.postcard_schema_text.specs.Angled.{IsHolderOf, IsPairOf}
 use Rattle.postcard_schema_text.specs.Names.{HasOther, IsNewTo, NamesDiffer}
 use Rattle.postcard_schema_text.specs.Grammar.{Separated, IsListRest, IsTupleRest, IsField, IsFieldsRest, IsMapRest, IsWorded, IsPlain, IsBehind, IsReferred, IsOptions, IsContent, IsVariantText, IsEnumText, IsType, IsExpression}
+use Rattle.postcard_value_text.specs.{Named, Schema, fields_of, layout_of, layouts_of}
 use Rattle.postcard_value_text.specs.Accepted.{AreNamed, AreNotCalled, HasDistinctNames, HaveDistinctNames}
 use Rattle.postcard_value_text.specs.Accepted as texts
-use Rattle.postcard_value_text.specs.Layout.{layout_of, layouts_of, fields_of}
 use Rattle.postcard_value_text.proofs.Layouts.{layout_of_leaf, layout_of_option, layout_of_seq, layout_of_map, layout_of_array, layout_of_tuple, layout_of_struct, layout_of_enum}
 
 -- Each schema that T denotes has distinct names.
@@ -59,10 +57,7 @@ of_one (holders.Fixed order) x s (integer, same, is) inside = rw (is, layout_of_
 
 -- The names of the variants of a result.
 result_names : (n m : List ℕ) → n ≡ codes "Ok" → m ≡ codes "Err" → n ≡ m → ⊥
-result_names n m ok err same = let e : codes "Ok" ≡ codes "Err" = sym ok ∙ same ∙ err in absurd (other e)
-  where
-    other : codes "Ok" ≡ codes "Err" → ⊥
-    other e = let long : 2 ≡ 3 = ap length e in omega (arith, long)
+result_names n m ok err same = cc
 
 of_two : (p : Pair) (x y s : Schema) → IsPairOf p x y s → HasDistinctNames (layout_of x) → HasDistinctNames (layout_of y) → HasDistinctNames (layout_of s)
 of_two pairs.Map x y s (b, c, is, key, value) first second = rw (is, layout_of_map b c, key, value) (first, second)

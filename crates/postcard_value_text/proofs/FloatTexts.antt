@@ -1,93 +1,42 @@
--- Lemmas on the texts of floats: their bytes, and the hexadecimal digits of a NaN's bits.
-use Rattle.std.proofs.Common.{◌≡◌, ℕ, zero, suc, ◌+◌, ◌*◌, ◌/◌, ◌%◌, ◌^◌, ◌<◌, Bool, true, false, List, [], ◌∷◌, ◌++◌, length, get_or, drop, Some, codes, refl, sym, ap, subst, ◌∙◌, eqb-true, arith, ◌⊎◌, inl, inr}
-use Rattle.std.proofs.Math.Nat.{pow-suc}
+-- Lemmas on the texts of floats: their bytes, the hexadecimal digits of a NaN's bits, and the float at the start of a text. No other float is
+-- there.
+use Rattle.std.proofs.Common.{◌≡◌, ℕ, zero, suc, ◌*◌, ◌^◌, ◌<◌, true, false, List, [], ◌∷◌, ◌++◌, length, get_or, drop, Some, codes, refl, sym, ap, subst, ◌∙◌, arith, inl, inr, ◌||◌, true≢false, ◌⊎◌}
 use Rattle.std.proofs.lemmas.Bool.Decides.{nat_tests}
+use Rattle.std.proofs.lemmas.Fmt.{digits_is_IsNumeral}
+use Rattle.std.proofs.lemmas.List.Elements.{All-nil, All-cons, All-append}
+use Rattle.std.proofs.lemmas.List.Sums.{AllPass-from_list_all}
 use Rattle.std.specs.Bool.{◌==◌}
-use Rattle.std.specs.Char.{digit_value}
-use Rattle.std.specs.Fmt.{digits, digits_onto, digit_glyph}
-use Rattle.std.specs.List.{AllPass}
-use Rattle.std.specs.Str.Parse.{AllDigits, IsNumeral, digits_value, digits_value_after, without_leading_plus}
+use Rattle.std.specs.Char.{digit_value, is_ascii_lowercase, is_ascii_whitespace, to_ascii_lowercase}
+use Rattle.std.specs.Fmt.{digits}
+use Rattle.std.specs.List.{AllPass, list_all}
+use Rattle.std.specs.Str.Parse.{AllDigits, IsNumeral, digits_value, without_leading_plus}
 use Rattle.std.specs.Float.{Float, Format, binary32, binary64, nan}
 use Rattle.std.specs.Float.Ieee.{is_nan, of_bits, to_bits, top}
 use Rattle.std.specs.Float.Numeral.{scan_numeral}
-use Rattle.std.specs.Float.Parse.{parse_float, read_float}
+use Rattle.std.specs.Float.Parse.{parse_float, read_float, completes_number, float_scan_step, lowercases_to, without_sign, is_infinity_text, is_nan_text}
 use lib.Ieee.Bits.{to_bits-of_bits}
-use Rattle.postcard_schema_text.specs.Text.{is_of_word, AreBlank, Led, Then, TakesPhrase, IsSign, IsWord}
-use Rattle.postcard_schema_text.specs.FrontLemmas.{pass_head, pass_tail}
+use Rattle.postcard_schema_text.specs.Text.{is_of_word, AreBlank, Led, Then, TakesPhrase, IsSign, IsWord, unblank, EndsWord}
+use Rattle.postcard_schema_text.specs.FrontLemmas.{pass_head, pass_tail, trim_is, takes_split, same_rest, word_unblank, sign_unblank, sign_ends_word, same_word, word_taken as whole_word}
 use Rattle.postcard_schema_text.specs.Phrases.{takes_two, takes_as}
-use Rattle.postcard_value_text.specs.Floats.{IsFloatWord, is_of_float, AreNan, IsHexadecimal, SpellsFloat, EndsNumber}
+use Rattle.std.proofs.lemmas.Bool.{and_parts, cases_Bool, eqb-true, or_cases}
+use Rattle.std.specs.Prelude.{is_some}
+use Rattle.std.specs.Str.{IsTrimAsciiStart, IsUtf8}
+use Rattle.std.proofs.lemmas.Str.{IsUtf8-from_ascii}
+use Rattle.std.proofs.lemmas.Str.Ascii.{IsAscii-from_all}
+use Rattle.core.proofs.dec2flt.Grammar.{is_some-parse_float}
+use Rattle.postcard_schema.specs.declared.leaf.Float.{Float as FloatType}
+use Rattle.postcard_schema.specs.declared.leaf.Float.TheVariants.{F32, F64}
+use Rattle.postcard_value_text.specs.Floats.{IsFloatWord, is_of_float, AreNan, IsHexadecimal, SpellsFloat, EndsNumber, format_of, IsNanText, EndsFloat}
+use Rattle.postcard_value_text.proofs.Fronts.{AreScalars, blank_other, one_number, scalar_taken}
 
 -- ---- the hexadecimal digits of a number
-
-pub true_or_false : (b : Bool) → (b ≡ true) ⊎ (b ≡ false)
-true_or_false true = inl refl
-true_or_false false = inr refl
-
-glyph_value : (d : ℕ) → d < 16 → digit_value (digit_glyph false d) ≡ d
-glyph_value d low = grind (arith, nat_tests, low)
-
-glyph_digit : (d : ℕ) → d < 16 → digit_value (digit_glyph false d) < 16
-glyph_digit d low = subst (λ n. n < 16) (sym (glyph_value d low)) low
-
--- The digits of a number, after which others follow, write the number followed by these.
-onto_value : (k n : ℕ) (acc : List ℕ) → n < 16 ^ k → digits_value 16 (digits_onto k 16 false n acc) ≡ digits_value_after 16 n acc
-onto_value zero n acc low = let none : 0 ≡ n = omega (arith, low) in ap (λ m. digits_value_after 16 m acc) none
-onto_value (suc k) n acc low =
-    let g = digit_glyph false (n % 16) in
-    let d : digit_value g ≡ n % 16 = glyph_value (n % 16) (omega arith) in
-    let p = pow-suc 16 k in
-    elim (true_or_false (n / 16 == 0)) [
-      | inl e ↦
-          let none : n / 16 ≡ 0 = eqb-true (n / 16) 0 e in
-          let whole : 0 * 16 + digit_value g ≡ n = omega (arith, d, none) in
-          rw e (ap (λ m. digits_value_after 16 m acc) whole)
-      | inr e ↦
-          let below : n / 16 < 16 ^ k = omega (arith, low, p) in
-          let whole : n / 16 * 16 + digit_value g ≡ n = omega (arith, d) in
-          rw e (onto_value k (n / 16) (g ∷ acc) below ∙ ap (λ m. digits_value_after 16 m acc) whole)
-    ]
-
-onto_all : (k n : ℕ) (acc : List ℕ) → AllDigits 16 acc → AllDigits 16 (digits_onto k 16 false n acc)
-onto_all zero n acc all = all
-onto_all (suc k) n acc all = elim (true_or_false (n / 16 == 0)) [
-  | inl e ↦ rw e (glyph_digit (n % 16) (omega arith), all)
-  | inr e ↦ rw e (onto_all k (n / 16) (digit_glyph false (n % 16) ∷ acc) (glyph_digit (n % 16) (omega arith), all))
-]
-
-onto_some : (k n : ℕ) (acc : List ℕ) → 0 < length acc → 0 < length (digits_onto k 16 false n acc)
-onto_some zero n acc some = some
-onto_some (suc k) n acc some = elim (true_or_false (n / 16 == 0)) [
-  | inl e ↦ rw e (omega arith)
-  | inr e ↦ rw e (onto_some k (n / 16) (digit_glyph false (n % 16) ∷ acc) (omega arith))
-]
-
-first_digit : (k n : ℕ) → 0 < length (digits_onto (suc k) 16 false n [])
-first_digit k n = elim (true_or_false (n / 16 == 0)) [
-  | inl e ↦ rw e (omega arith)
-  | inr e ↦ rw e (onto_some k (n / 16) (digit_glyph false (n % 16) ∷ []) (omega arith))
-]
-
-hex_value : (n : ℕ) → n < 16 ^ 64 → digits_value 16 (digits 16 false n) ≡ n
-unfolding digits
-hex_value n low = onto_value 64 n [] low
-
-hex_numeral : (n : ℕ) → IsNumeral 16 (digits 16 false n)
-unfolding digits
-hex_numeral n = (first_digit 63 n, onto_all 64 n [] tt)
 
 digit_of_word : (b : ℕ) → digit_value b < 16 → is_of_word b ≡ true
 digit_of_word b low = grind (arith, nat_tests, low)
 
-pub pass_cons : (p : ℕ → Bool) (x : ℕ) (xs : List ℕ) → p x ≡ true → AllPass p xs → AllPass p (x ∷ xs)
-pass_cons p x xs h t zero d low = h
-pass_cons p x xs h t (suc k) d low = t k d (omega (arith, low))
-
-pub pass_none : (p : ℕ → Bool) → AllPass p []
-pass_none p k d low = absurd (omega (arith, low))
-
 digits_of_word : (ds : List ℕ) → AllDigits 16 ds → AllPass is_of_word ds
-digits_of_word [] all = pass_none is_of_word
-digits_of_word (d ∷ ds) all = pass_cons is_of_word d ds (digit_of_word d all.0) (digits_of_word ds all.1)
+digits_of_word [] all = All-nil _
+digits_of_word (d ∷ ds) all = All-cons (λ b. is_of_word b ≡ true) d ds (digit_of_word d all.0) (digits_of_word ds all.1)
 
 -- ---- what is printed
 
@@ -118,7 +67,7 @@ plain_sign : (sign : ℕ) → IsSign sign (sign ∷ [])
 plain_sign sign = ([], sign ∷ [], no_blanks, refl, refl)
 
 nan_of_word : AllPass is_of_word (codes "nan")
-nan_of_word = pass_cons is_of_word 110 (97 ∷ 110 ∷ []) refl (pass_cons is_of_word 97 (110 ∷ []) refl (pass_cons is_of_word 110 [] refl (pass_none is_of_word)))
+nan_of_word = AllPass-from_list_all is_of_word (codes "nan") refl
 
 -- `nan` denotes the bits of `f32::NAN`.
 pub usual_32 : (bits : ℕ) → bits ≡ 0x7fc0_0000 → SpellsFloat binary32 bits (codes "nan")
@@ -137,9 +86,10 @@ number_spells f bits word low other reads =
 pub nan_spells : (f : Format) (bits : ℕ) → AreNan f bits → bits < 16 ^ 64 → SpellsFloat f bits (codes "nan(0x" ++ (digits 16 false bits ++ 41 ∷ []))
 nan_spells f bits are low =
     let ds = digits 16 false bits in
-    let num = hex_numeral bits in
-    let pass : AllPass is_of_word (48 ∷ 120 ∷ ds) = pass_cons is_of_word 48 (120 ∷ ds) refl (pass_cons is_of_word 120 ds refl (digits_of_word ds num.1)) in
-    let code : IsHexadecimal bits (48 ∷ 120 ∷ ds) = (ds, num, sym (hex_value bits low), plain_word _ pass) in
+    let k = digits_is_IsNumeral 16 false (omega arith) (omega arith) bits low in
+    let zero_x : AllPass is_of_word (48 ∷ 120 ∷ []) = AllPass-from_list_all is_of_word (48 ∷ 120 ∷ []) refl in
+    let pass : AllPass is_of_word (48 ∷ 120 ∷ ds) = All-append (λ b. is_of_word b ≡ true) (48 ∷ 120 ∷ []) ds zero_x (digits_of_word ds k.0.1) in
+    let code : IsHexadecimal bits (48 ∷ 120 ∷ ds) = (ds, k.0, sym k.1, plain_word _ pass) in
     inr (
       are,
       (
@@ -193,3 +143,171 @@ ends_at zero [] h = tt
 ends_at zero (b ∷ text) h = h (omega arith)
 ends_at (suc n) [] h = tt
 ends_at (suc n) (b ∷ text) h = ends_at n text (λ low. h (omega (arith, low)))
+
+-- ---- the bytes of a number
+
+-- A text that can no longer be a number stays none with further bytes.
+stuck : (bs : List ℕ) → completes_number 7 bs ≡ true → ⊥
+stuck [] h = true≢false (sym h)
+stuck (b ∷ bs) h =
+    let still : float_scan_step 7 b ≡ 7 = grind (arith, nat_tests) in
+    stuck bs (subst (λ s. completes_number s bs ≡ true) still h)
+
+ends_at_other : (s b : ℕ) → is_of_float b ≡ false → float_scan_step s b ≡ 7
+ends_at_other s b h = grind (arith, nat_tests, h)
+
+number_all : (s : ℕ) (bs : List ℕ) → completes_number s bs ≡ true → AllPass is_of_float bs
+number_all s [] h = All-nil _
+number_all s (b ∷ bs) h = elim (cases_Bool (is_of_float b)) [
+  | inl is ↦ All-cons (λ x. is_of_float x ≡ true) b bs is (number_all (float_scan_step s b) bs h)
+  | inr other ↦ absurd (stuck bs (subst (λ t. completes_number t bs ≡ true) (ends_at_other s b other) h))
+]
+
+-- The bytes of a word of small letters in either case.
+letter_case : (b w : ℕ) → is_ascii_lowercase w ≡ true → to_ascii_lowercase b ≡ w → is_of_float b ≡ true
+letter_case b w small is = grind (arith, nat_tests, small, is)
+
+word_all : (bs ws : List ℕ) → list_all is_ascii_lowercase ws ≡ true → lowercases_to bs ws ≡ true → AllPass is_of_float bs
+word_all [] ws small h = All-nil _
+word_all (b ∷ bs) [] small h = absurd (true≢false (sym h))
+word_all (b ∷ bs) (w ∷ ws) small h =
+    let s = and_parts (is_ascii_lowercase w) (list_all is_ascii_lowercase ws) small in
+    let k = and_parts (to_ascii_lowercase b == w) (lowercases_to bs ws) h in
+    All-cons (λ x. is_of_float x ≡ true) b bs (letter_case b w s.0 (eqb-true _ w k.0)) (word_all bs ws s.1 k.1)
+
+unsigned_all : (bs : List ℕ) → completes_number 0 bs || (is_infinity_text bs || is_nan_text bs) ≡ true → AllPass is_of_float bs
+unsigned_all bs h = elim (or_cases (completes_number 0 bs) (is_infinity_text bs || is_nan_text bs) h) [
+  | inl n ↦ number_all 0 bs n
+  | inr w ↦ elim (or_cases (is_infinity_text bs) (is_nan_text bs) w) [
+    | inl i ↦ elim (or_cases (lowercases_to bs (codes "inf")) (lowercases_to bs (codes "infinity")) i) [
+      | inl a ↦ word_all bs (codes "inf") refl a
+      | inr b ↦ word_all bs (codes "infinity") refl b
+    ]
+    | inr n ↦ word_all bs (codes "nan") refl n
+  ]
+]
+
+sign_passes : (b : ℕ) → b == 43 || b == 45 ≡ true → is_of_float b ≡ true
+sign_passes b h = grind (arith, nat_tests, h)
+
+signed_all : (bs : List ℕ) → AllPass is_of_float (without_sign bs) → AllPass is_of_float bs
+signed_all [] h = All-nil _
+signed_all (b ∷ bs) h = elim (cases_Bool (b == 43 || b == 45)) [
+  | inl s ↦ All-cons (λ x. is_of_float x ≡ true) b bs (sign_passes b s) (rw s at h)
+  | inr s ↦ rw s at h
+]
+
+-- What is read as a float has a byte, and only bytes of numbers.
+pub float_all : (f : Format) (x : Float) (bs : List ℕ) → parse_float f bs ≡ Some x → (0 < length bs) × AllPass is_of_float bs
+float_all f x [] reads = absurd (true≢false (ap is_some (sym reads) ∙ is_some-parse_float f []))
+float_all f x (b ∷ bs) reads = (omega arith, signed_all (b ∷ bs) (unsigned_all (without_sign (b ∷ bs)) (sym (is_some-parse_float f (b ∷ bs)) ∙ ap is_some reads)))
+
+-- ---- what comes first in a text
+
+pub float_scalars : (f : Format) (bits : ℕ) → AreScalars (IsFloatWord f bits)
+unfolding AreScalars
+float_scalars f bits word reads = float_all f reads.0 word reads.1
+
+-- The text begins with `nan` and the bits of a NaN in parentheses.
+pub record NanFirst (bits : ℕ) (text rest : List ℕ) : Type 0 where
+  pub back : List ℕ
+  pub first : unblank text ≡ codes "nan" ++ back
+  pub code : TakesPhrase (Then (IsSign 40) (Then (IsHexadecimal bits) (IsSign 41))) back rest
+
+pub nan_first : (f : Format) (bits : ℕ) (text rest : List ℕ) → TakesPhrase (IsNanText f bits) text rest → NanFirst bits text rest
+nan_first f bits text rest (front, (are, code), whole) =
+    let k = takes_split (IsWord (codes "nan")) (Then (IsSign 40) (Then (IsHexadecimal bits) (IsSign 41))) text rest (front, code, whole) in
+    record { back = k.0; first = word_unblank 110 (97 ∷ 110 ∷ []) text k.0 k.1; code = k.2 }
+
+-- A text that begins with a sign, after blanks or none, goes on with no number.
+sign_ends : (sign : ℕ) (text rest : List ℕ) → is_of_float sign ≡ false → TakesPhrase (IsSign sign) text rest → EndsNumber text
+sign_ends sign text rest other (front, ([], phrase, blank, is, e), whole) =
+    let all : text ≡ sign ∷ rest = whole ∙ ap (λ t. t ++ rest) (e ∙ is) in
+    rw all other
+sign_ends sign text rest other (front, (b ∷ blanks, phrase, blank, is, e), whole) =
+    let all : text ≡ b ∷ (blanks ++ phrase) ++ rest = whole ∙ ap (λ t. t ++ rest) e in
+    rw all (blank_other b (pass_head is_ascii_whitespace b blanks blank))
+
+-- ---- a code that was taken
+
+-- The word that is next is `0x` and the digits of n, and `)` comes after it.
+pub record CodeFound (n : ℕ) (word left after : List ℕ) : Type 0 where
+  pub digits : List ℕ
+  pub numeral : IsNumeral 16 digits
+  pub says : n ≡ digits_value 16 digits
+  pub all : AllPass is_of_word digits
+  pub is : word ≡ 48 ∷ 120 ∷ digits
+  pub close : TakesPhrase (IsSign 41) left after
+
+-- The word that was taken is the bits, after `0x`.
+pub code_found : (n : ℕ) (text word left after : List ℕ) → TakesPhrase (IsWord word) text left → ((trimmed : List ℕ) × IsTrimAsciiStart text trimmed × (trimmed ≡ word ++ left)) → EndsWord left
+    → TakesPhrase (Then (IsHexadecimal n) (IsSign 41)) text after → CodeFound n word left after
+code_found n text word left after taken first over h =
+    let k = takes_split (IsHexadecimal n) (IsSign 41) text after h in
+    let (front, hex, whole) = k.1 in
+    let (digits, numeral, says, (all, led)) = hex in
+    let same = same_word 48 (120 ∷ digits) word text left k.0 (whole_word taken first over) (front, (all, led), whole) (sign_ends_word 41 k.0 after refl k.2) in
+    record {
+      digits = digits;
+      numeral = numeral;
+      says = says;
+      all = pass_tail is_of_word 120 digits (pass_tail is_of_word 48 (120 ∷ digits) all);
+      is = sym same.0;
+      close = subst (λ t. TakesPhrase (IsSign 41) t after) same.1 k.2;
+    }
+
+-- ---- a text that was taken
+
+same_some : (x y : Float) → Some x ≡ Some y → x ≡ y
+same_some x y e = cc
+
+-- A word has the bits of one float.
+pub one_float : (f : Format) (m n : ℕ) (word : List ℕ) → IsFloatWord f m word → IsFloatWord f n word → m ≡ n
+one_float f m n word (x, reads, is) (y, too, was) = is ∙ ap (to_bits f) (same_some x y (sym reads ∙ too)) ∙ sym was
+
+-- The bits of a NaN are below 2 ^ 64.
+pub at_most_64 : (t : FloatType) (bits : ℕ) → AreNan (format_of t) bits → bits < 2 ^ 64
+at_most_64 F32 bits are = omega (arith, are.0)
+at_most_64 F64 bits are = omega (arith, are.0)
+
+-- The number at the start of a text. Either the word is the whole phrase, and the bits are those of the float that it denotes. Or it is
+-- `nan`, and the phrase goes on with its bits in parentheses.
+pub Parsed : Format → ℕ → List ℕ → List ℕ → List ℕ → Type 0
+Parsed f bits word left after =
+    (IsFloatWord f bits word × (left ≡ after))
+    ⊎ (AreNan f bits × (word ≡ codes "nan") × ((mid : List ℕ) × TakesPhrase (IsSign 40) left mid × TakesPhrase (Then (IsHexadecimal bits) (IsSign 41)) mid after))
+
+pub parsed : (f : Format) (bits : ℕ) (text word left after trimmed : List ℕ) → AllPass is_of_float word → EndsNumber left → IsTrimAsciiStart text trimmed → trimmed ≡ word ++ left
+    → TakesPhrase (SpellsFloat f bits) text after → EndsFloat after → Parsed f bits word left after
+unfolding Parsed
+parsed f bits text word left after trimmed all over trim is (x, inl p, e) end =
+    inl (scalar_taken (IsFloatWord f bits) text after word left (float_scalars f bits) (x, p, e) end.0 all over (trimmed, trim, is))
+parsed f bits text word left after trimmed all over trim is (x, inr p, e) end =
+    let n = nan_first f bits text after (x, p, e) in
+    let sign = takes_split (IsSign 40) (Then (IsHexadecimal bits) (IsSign 41)) n.back after n.code in
+    let k = one_number (codes "nan") word n.back left (AllPass-from_list_all is_of_float (codes "nan") refl) all (sign_ends 40 n.back sign.0 refl sign.1) over (sym n.first ∙ sym (trim_is text trimmed trim) ∙ is) in
+    inr (p.0, sym k.0, (sign.0, subst (λ t. TakesPhrase (IsSign 40) t sign.0) k.1 sign.1, sign.2))
+
+-- Where a `(` was taken after the number, the phrase is a code.
+pub parsed_code : (f : Format) (bits : ℕ) (word left after mid : List ℕ) → Parsed f bits word left after → EndsFloat after → TakesPhrase (IsSign 40) left mid
+    → AreNan f bits × TakesPhrase (Then (IsHexadecimal bits) (IsSign 41)) mid after
+unfolding Parsed
+parsed_code f bits word left after mid (inl p) end sign = absurd (end.1 mid (subst (λ t. TakesPhrase (IsSign 40) t mid) p.1 sign))
+parsed_code f bits word left after mid (inr (are, is, (other, taken, code))) end sign =
+    let same : other ≡ mid = same_rest (sym (sign_unblank 40 left other refl taken) ∙ sign_unblank 40 left mid refl sign) in
+    (are, subst (λ t. TakesPhrase (Then (IsHexadecimal bits) (IsSign 41)) t after) same code)
+
+-- Where none was, or the number isn't `nan`, the phrase is the number.
+pub parsed_number : (f : Format) (bits : ℕ) (word left after : List ℕ) → Parsed f bits word left after → (word ≡ codes "nan" → (mid : List ℕ) → TakesPhrase (IsSign 40) left mid → ⊥)
+    → IsFloatWord f bits word × (left ≡ after)
+unfolding Parsed
+parsed_number f bits word left after (inl p) none = p
+parsed_number f bits word left after (inr (are, is, (mid, taken, code))) none = absurd (none is mid taken)
+
+-- The bytes of numbers are UTF-8.
+float_ascii : (b : ℕ) → is_of_float b ≡ true → b < 128
+float_ascii b h = grind (arith, nat_tests, h)
+
+-- A word of the bytes of numbers is UTF-8.
+pub number_utf8 : (word : List ℕ) → AllPass is_of_float word → IsUtf8 word
+number_utf8 word pass = IsUtf8-from_ascii word (IsAscii-from_all word (λ k d inside. float_ascii (get_or word k d) (pass k d inside)))

@@ -1,33 +1,33 @@
--- What is at the start of a text of the grammar of values: numbers, words and signs, and what may follow them.
-use Rattle.std.proofs.Common.{◌≡◌, ◌≢◌, ℕ, zero, suc, ◌<◌, Bool, true, false, cond, List, [], ◌∷◌, ◌++◌, length, get_or, drop, codes, refl, sym, ap, subst, ◌∙◌, arith, inl, inr}
+-- What is at the start of a text of the grammar of values: numbers, words, signs and empty phrases, and what may follow them.
+use Rattle.std.proofs.Common.{◌≡◌, ◌≢◌, ℕ, zero, suc, ◌<◌, Bool, true, false, cond, List, [], ◌∷◌, ◌++◌, length, get_or, drop, codes, refl, sym, ap, subst, ◌∙◌, true≢false, arith, inl, inr}
 use Rattle.std.proofs.lemmas.Bool.Decides.{nat_tests}
 use Rattle.std.proofs.lemmas.List.{append_assoc}
+use Rattle.std.proofs.lemmas.List.Elements.{All-cons}
+use Rattle.std.proofs.lemmas.List.Sums.{AllPass-from_list_all}
 use Rattle.std.specs.Bool.{◌==◌}
 use Rattle.std.specs.Char.{is_ascii_whitespace}
 use Rattle.std.specs.List.{AllPass}
 use Rattle.std.specs.Prelude.{ℤ, slice_index}
 use Rattle.std.specs.Str.{IsTrimAsciiStart}
 use Rattle.std.specs.Str.Parse.{without_leading_plus, without_leading_sign}
-use Rattle.postcard_schema_text.specs.Text.{unblank, is_of_word, Led, TakesPhrase, IsSign, EndsWord}
+use Rattle.postcard_schema_text.specs.Text.{unblank, is_of_word, Led, TakesPhrase, IsSign, EndsWord, IsMaybe}
 use Rattle.postcard_schema_text.specs.Fronts.{follows_type}
-use Rattle.postcard_schema_text.specs.FrontLemmas.{trim_is, pass_head, unblank_more, unblank_black, same_first, same_rest, sign_unblank}
+use Rattle.postcard_schema_text.specs.FrontLemmas.{trim_is, pass_head, pass_tail, unblank_more, unblank_black, same_first, same_rest, sign_unblank}
 use Rattle.postcard_schema_text.proofs.Left.{goes_variant, goes_ends_word, not_next_type}
-use Rattle.postcard_value_text.specs.Accepted.{FollowsValue}
-use Rattle.postcard_value_text.specs.Floats.{is_of_float, EndsNumber, EndsFloat}
-use Rattle.postcard_schema_text.specs.Literals.{IsLiteral}
 use Rattle.postcard_schema_text.specs.LiteralLemmas.{literal_bytes, literal_some}
 use Rattle.postcard_schema.specs.declared.leaf.Integer.{Integer}
-use Rattle.postcard_value_text.specs.Numbers.{IsUnsigned, IsSigned, HasBits}
+use Rattle.postcard_schema_text.specs.Phrases.{takes_as}
+use Rattle.postcard_value_text.specs.{FollowsValue, HasBits, IsLiteral, IsSigned, IsUnsigned}
+use Rattle.postcard_value_text.specs.Floats.{is_of_float, EndsNumber, EndsFloat}
 use Rattle.postcard_value_text.specs.Spelled.{Phrase, IsTruth}
-use Rattle.postcard_value_text.proofs.FloatTexts.{pass_cons, pass_none}
-use Rattle.postcard_value_text.proofs.FloatFronts.{one_number}
 
 -- ---- what follows a value
 
 follows_other : (b : ℕ) → follows_type b ≡ true → is_of_float b ≡ false
 follows_other b h = grind (arith, nat_tests, h)
 
-blank_other : (b : ℕ) → is_ascii_whitespace b ≡ true → is_of_float b ≡ false
+-- A blank is no byte of a number.
+pub blank_other : (b : ℕ) → is_ascii_whitespace b ≡ true → is_of_float b ≡ false
 blank_other b h = grind (arith, nat_tests, h)
 
 -- What may follow a value doesn't go on with a number.
@@ -70,7 +70,7 @@ pub record ScalarFront (P : Phrase) (b after : List ℕ) : Type 0 where
   pub whole : b ≡ word ++ after
 
 -- A phrase of bytes of numbers, at least one.
-pub AreScalars : Phrase → Type 0
+unfoldable pub AreScalars : Phrase → Type 0
 AreScalars P = (word : List ℕ) → P word → (0 < length word) × AllPass is_of_float word
 
 -- The first bytes after blanks are the phrase.
@@ -98,6 +98,16 @@ scalar_trimmed P a b after each trim h =
 pub scalar_led : (P : Phrase) (a word left : List ℕ) → TakesPhrase (Led (λ w. w ≡ word)) a left → P word → TakesPhrase (Led P) a left
 scalar_led P a word left (front, (blanks, phrase, blank, is, e), whole) p = (front, (blanks, phrase, blank, subst P (sym is) p, e), whole)
 
+-- Two numbers in a text are the same if none goes on.
+pub one_number : (w v r q : List ℕ) → AllPass is_of_float w → AllPass is_of_float v → EndsNumber r → EndsNumber q → w ++ r ≡ v ++ q
+    → (w ≡ v) × (r ≡ q)
+one_number [] [] r q f g h k e = (refl, e)
+one_number [] (y ∷ v) r q f g h k e = absurd (true≢false (sym (pass_head is_of_float y v g) ∙ subst EndsNumber e h))
+one_number (x ∷ w) [] r q f g h k e = absurd (true≢false (sym (pass_head is_of_float x w f) ∙ subst EndsNumber (sym e) k))
+one_number (x ∷ w) (y ∷ v) r q f g h k e =
+    let rest = one_number w v r q (pass_tail is_of_float x w f) (pass_tail is_of_float y v g) h k (same_rest e) in
+    (ap (λ z. z ∷ w) (same_first e) ∙ ap (λ z. y ∷ z) rest.0, rest.1)
+
 -- The bytes of a number that are next are the phrase.
 pub scalar_taken : (P : Phrase) (a after word left : List ℕ) → AreScalars P → TakesPhrase (Led P) a after → EndsNumber after → AllPass is_of_float word → EndsNumber left
     → ((trimmed : List ℕ) × IsTrimAsciiStart a trimmed × (trimmed ≡ word ++ left)) → P word × (left ≡ after)
@@ -114,7 +124,7 @@ literal_scalar n w is = λ k d inside. word_scalar (get_or w k d) (literal_bytes
 
 -- A sign before a number, or the first byte of it.
 after_plus : (x : ℕ) (w : List ℕ) (plus : Bool) → (plus ≡ true → is_of_float x ≡ true) → AllPass is_of_float (drop (cond plus 1 0) (x ∷ w)) → AllPass is_of_float (x ∷ w)
-after_plus x w true first h = pass_cons is_of_float x w (first refl) h
+after_plus x w true first h = All-cons (λ b. is_of_float b ≡ true) x w (first refl) h
 after_plus x w false first h = h
 
 plus_scalar : (x : ℕ) → x == 43 ≡ true → is_of_float x ≡ true
@@ -134,7 +144,7 @@ unsigned_scalars n (x ∷ w) is = (omega arith, after_plus x w (x == 43) (plus_s
 
 after_sign : (x : ℕ) (w : List ℕ) (minus : Bool) → (minus ≡ true → is_of_float x ≡ true)
     → AllPass is_of_float (cond minus (drop 1 (x ∷ w)) (without_leading_plus (x ∷ w))) → AllPass is_of_float (x ∷ w)
-after_sign x w true first h = pass_cons is_of_float x w (first refl) h
+after_sign x w true first h = All-cons (λ b. is_of_float b ≡ true) x w (first refl) h
 after_sign x w false first h = after_plus x w (x == 43) (plus_scalar x) h
 
 signed_scalars : (z : ℤ) → AreScalars (IsSigned z)
@@ -147,16 +157,10 @@ unfolding AreScalars
 bits_scalars true i n word (z, bits, is) = signed_scalars z word is
 bits_scalars false i n word (low, is) = unsigned_scalars n word is
 
-true_all : AllPass is_of_float (codes "true")
-true_all = pass_cons is_of_float 116 (114 ∷ 117 ∷ 101 ∷ []) refl (pass_cons is_of_float 114 (117 ∷ 101 ∷ []) refl (pass_cons is_of_float 117 (101 ∷ []) refl (pass_cons is_of_float 101 [] refl (pass_none is_of_float))))
-
-false_all : AllPass is_of_float (codes "false")
-false_all = pass_cons is_of_float 102 (97 ∷ 108 ∷ 115 ∷ 101 ∷ []) refl (pass_cons is_of_float 97 (108 ∷ 115 ∷ 101 ∷ []) refl (pass_cons is_of_float 108 (115 ∷ 101 ∷ []) refl (pass_cons is_of_float 115 (101 ∷ []) refl (pass_cons is_of_float 101 [] refl (pass_none is_of_float)))))
-
 pub truth_scalars : (x : Bool) → AreScalars (IsTruth x)
 unfolding AreScalars
-truth_scalars true word is = rw is (omega arith, true_all)
-truth_scalars false word is = rw is (omega arith, false_all)
+truth_scalars true word is = rw is (omega arith, AllPass-from_list_all is_of_float (codes "true") refl)
+truth_scalars false word is = rw is (omega arith, AllPass-from_list_all is_of_float (codes "false") refl)
 
 -- ---- words and signs
 
@@ -167,3 +171,28 @@ one_rest sign text a b black first second = same_rest (sym (sign_unblank sign te
 -- Two different signs are not both at one place.
 pub other_sign : (x y : ℕ) (text a b : List ℕ) → is_ascii_whitespace x ≡ false → is_ascii_whitespace y ≡ false → x ≢ y → TakesPhrase (IsSign x) text a → TakesPhrase (IsSign y) text b → ⊥
 other_sign x y text a b black dark differ first second = differ (same_first (sym (sign_unblank x text a black first) ∙ sign_unblank y text b dark second))
+
+-- ---- a sign that may be left out, and empty phrases
+
+-- An empty phrase takes nothing.
+pub takes_none : (a : List ℕ) → TakesPhrase (λ text. text ≡ []) a a
+takes_none a = ([], refl, refl)
+
+pub none_taken : (a b : List ℕ) → TakesPhrase (λ text. text ≡ []) a b → a ≡ b
+none_taken a b (front, none, whole) = whole ∙ ap (λ t. t ++ b) none
+
+-- A `,`, or none, is taken.
+pub maybe_taken : (taken : Bool) (a b : List ℕ) → (taken ≡ true → TakesPhrase (IsSign 44) a b) → (taken ≡ false → b ≡ a) → TakesPhrase (IsMaybe 44) a b
+maybe_taken true a b sign none = takes_as (IsSign 44) (IsMaybe 44) a b (λ t k. inr k) (sign refl)
+maybe_taken false a b sign none = ([], inl refl, sym (none refl))
+
+-- A `,` that may stand before a closing bracket was taken if it was there.
+pub maybe_left : (taken : Bool) (closing : ℕ) (a b m r : List ℕ) → is_ascii_whitespace closing ≡ false → closing ≢ 44 → TakesPhrase (IsMaybe 44) a m → TakesPhrase (IsSign closing) m r
+    → (taken ≡ true → TakesPhrase (IsSign 44) a b) → (taken ≡ false → b ≡ a) → (taken ≡ false → (x : List ℕ) → TakesPhrase (IsSign 44) a x → ⊥) → TakesPhrase (IsSign closing) b r
+maybe_left true closing a b m r black differs (front, inl none, whole) close took kept never =
+    absurd (other_sign closing 44 a r b black refl differs (subst (λ t. TakesPhrase (IsSign closing) t r) (sym (none_taken a m (front, none, whole))) close) (took refl))
+maybe_left true closing a b m r black differs (front, inr sign, whole) close took kept never =
+    subst (λ t. TakesPhrase (IsSign closing) t r) (one_rest 44 a m b refl (front, sign, whole) (took refl)) close
+maybe_left false closing a b m r black differs (front, inl none, whole) close took kept never =
+    subst (λ t. TakesPhrase (IsSign closing) t r) (sym (none_taken a m (front, none, whole)) ∙ sym (kept refl)) close
+maybe_left false closing a b m r black differs (front, inr sign, whole) close took kept never = absurd (never refl m (front, sign, whole))

@@ -7,24 +7,19 @@ use Rattle.std.proofs.Math.Dec.{eqb-suc-zero}
 use Rattle.postcard_wire.specs.Tree.{Tree, Trees, NoTrees, trees}
 use Rattle.postcard_wire.specs.Tree as nodes
 use Rattle.postcard_wire.specs.Reading.{IsEnd, IsGroup, IsThen}
-use Rattle.postcard_schema.specs.declared.schema.Named.{Named}
-use Rattle.postcard_schema.specs.declared.schema.Schema.{Schema}
-use Rattle.postcard_schema.specs.Meaning.{contents, reads, reads_all, type_of, types_of}
-use Rattle.postcard_schema_text.specs.Text.{Then, TakesPhrase, IsSign, IsMaybe}
 use Rattle.postcard_schema_text.specs.Fronts.{follows_type}
 use Rattle.postcard_schema_text.specs.FrontLemmas.{takes_split}
 use Rattle.postcard_schema_text.specs.Phrases.{takes_two}
 use Rattle.postcard_value.specs.declared.value.Value.{Value}
-use Rattle.postcard_value.specs.Tree.{tree}
+use Rattle.postcard_value_text.specs.{IsMaybe, IsSign, Named, Schema, TakesPhrase, Then, contents, fields_of, layout_of, layouts_of, reads, reads_all}
+use Rattle.postcard_value_text.specs.{tree, type_of, types_of}
 use Rattle.postcard_value_text.specs.declared.error.Stop.{Stop}
 use Rattle.postcard_value_text.specs.Accepted.{AreNamed, FollowsValue, HasDistinctNames, HaveDistinctNames, ReadsText, ReadsTree}
-use Rattle.postcard_value_text.specs.Layout.{fields_of, layout_of, layouts_of}
 use Rattle.postcard_value_text.specs.Spelled.{Phrase, Speller, IsFieldName, Row, Unless, are_none, AreClosed, AreEnclosed, SpellsEntry, SpellsField, SpellsGroup, SpellsTree, field_phrases, part_phrases}
-use Rattle.postcard_value_text.proofs.Fronts.{sign_follows}
+use Rattle.postcard_value_text.proofs.Fronts.{sign_follows, none_taken}
 use Rattle.postcard_value_text.proofs.Items.{row}
 use Rattle.postcard_value_text.proofs.Parts.{AllAre, ReadsParts, phrases_by}
-use Rattle.postcard_value_text.proofs.Readers.{Took, Misses, after_phrase, before_phrase, missed_after, phrase_missed, refused, refused_before, spelled_as, took_sign}
-use Rattle.postcard_value_text.proofs.Signs.{none_taken}
+use Rattle.postcard_value_text.proofs.Readers.{Took, Misses, after_phrase, before_phrase, missed_after, phrase_missed, refused, refused_before, spelled_as, took_sign, fails_with}
 
 -- ---- the brackets around parts
 
@@ -78,11 +73,8 @@ module _ {A : Type 0} {N : Type 0} (R : A → Tree → Type 0) (S : A → Spelle
     (same : (ts : Trees) → phrases_by S xs ts ≡ others ts) (opening closing : ℕ) (black : is_ascii_whitespace opening ≡ false) (passes : follows_type closing ≡ true) {a : List ℕ} where
   refused_whole : {b : List ℕ} {e : Stop} → ReadsText row N (AllAre R xs) (λ ts. AreEnclosed opening closing (phrases_by S xs ts)) a (Err e) b
       → ReadsTree N (IsGroup Q) (SpellsGroup opening closing others) a (Err e) b
-  refused_whole h = record {
-    value = tt;
-    spelled = tt;
-    accepted = λ names t x (ts, is, each) k goes. h.accepted names ts x (subst (λ P. P ts) (sym sets) each) (enclosed_as (phrases_by S xs) others same opening closing t ts a x is k) goes;
-  }
+  refused_whole h = fails_with (λ names t x (ts, is, each) k goes.
+      h.accepted names ts x (subst (λ P. P ts) (sym sets) each) (enclosed_as (phrases_by S xs) others same opening closing t ts a x is k) goes)
 
   pub group_unopened : {b : List ℕ} (e : Stop) → Misses (IsSign opening) a → ReadsTree N (IsGroup Q) (SpellsGroup opening closing others) a (Err e) b
   group_unopened e none = refused_whole (phrase_missed row N (AllAre R xs) (λ ts. AreClosed closing (phrases_by S xs ts)) (IsSign opening) e (λ names. none))
@@ -239,11 +231,7 @@ entry_front K V P Q t a x (ts, e, (k, us, f, is, (v, none, g, also, end))) h =
 
 module _ {M N : Type 0} {K V : Tree → Type 0} (P Q : Speller) {a : List ℕ} where
   pub key_refused : {m b : List ℕ} {e : Stop} → ReadsTree M K P a (Err e) m → ReadsTree (M × N) (IsEntry K V) (SpellsEntry P Q) a (Err e) b
-  key_refused h = record {
-    value = tt;
-    spelled = tt;
-    accepted = λ names t x is k goes. let f = entry_front K V P Q t a x is k in h.accepted names.0 f.key f.mid f.is f.taken f.goes;
-  }
+  key_refused h = fails_with (λ names t x is k goes. let f = entry_front K V P Q t a x is k in h.accepted names.0 f.key f.mid f.is f.taken f.goes)
 
   module _ {m : List ℕ} {k : Value} (one : ReadsTree M K P a (Ok k) m) where
     pub arrow_missed : {b : List ℕ} (e : Stop) → Misses IsArrow m → ReadsTree (M × N) (IsEntry K V) (SpellsEntry P Q) a (Err e) b
@@ -261,11 +249,8 @@ module _ {M N : Type 0} {K V : Tree → Type 0} (P Q : Speller) {a : List ℕ} w
           (got.0, subst (λ y. TakesPhrase (Q f.value) y x) (sym at) f.left)
 
       pub value_refused : {l b : List ℕ} {e : Stop} → ReadsTree N V Q n (Err e) l → ReadsTree (M × N) (IsEntry K V) (SpellsEntry P Q) a (Err e) b
-      value_refused h = record {
-        value = tt;
-        spelled = tt;
-        accepted = λ names t x is s goes. let f = entry_front K V P Q t a x is s in h.accepted names.1 f.value x f.also (second names t x f).1 goes;
-      }
+      value_refused h = fails_with (λ names t x is s goes.
+          let f = entry_front K V P Q t a x is s in h.accepted names.1 f.value x f.also (second names t x f).1 goes)
 
       pub entry_read : {b : List ℕ} {v : Value} (w : Value) → tree w ≡ nodes.Group (trees (tree k ∷ tree v ∷ [])) → ReadsTree N V Q n (Ok v) b
           → ReadsTree (M × N) (IsEntry K V) (SpellsEntry P Q) a (Ok w) b

@@ -4,22 +4,19 @@ use Rattle.std.specs.Prelude.{Result, Ok, Err}
 use Rattle.std.specs.Char.{is_ascii_whitespace}
 use Rattle.postcard_wire.specs.Tree.{Tree, Trees, NoTrees, count, trees}
 use Rattle.postcard_wire.specs.Tree as nodes
-use Rattle.postcard_wire.specs.Reading.{Each, IsArray, IsSeq}
 use Rattle.postcard_ser.proofs.Elements.{elements_count}
-use Rattle.postcard_schema_text.specs.Text.{Then, TakesPhrase, IsSign, IsMaybe}
 use Rattle.postcard_schema_text.specs.Fronts.{follows_type, Starts}
 use Rattle.postcard_schema_text.specs.FrontLemmas.{takes_split, sign_unblank, not_empty}
 use Rattle.postcard_schema_text.specs.Phrases.{takes_two, takes_as}
 use Rattle.postcard_schema_text.proofs.Heads.{starts_not_by}
 use Rattle.postcard_value.specs.declared.value.Value.{Value}
-use Rattle.postcard_value.specs.Tree.{tree}
+use Rattle.postcard_value_text.specs.{Each, IsArray, IsMaybe, IsSeq, IsSign, TakesPhrase, Then, tree}
 use Rattle.postcard_value_text.specs.declared.error.Stop.{Stop}
 use Rattle.postcard_value_text.specs.Accepted.{FollowsValue, ReadsAs, ReadsText, ReadsTree}
 use Rattle.postcard_value_text.specs.Spelled.{Phrase, Speller, Row, RowAfter, Unless, are_none, AreClosed, AreEnclosed, phrases, SpellsList, SpellsArray}
-use Rattle.postcard_value_text.proofs.Fronts.{other_sign, sign_follows}
+use Rattle.postcard_value_text.proofs.Fronts.{other_sign, sign_follows, takes_none, none_taken}
 use Rattle.postcard_value_text.proofs.Openings.{begins_value}
-use Rattle.postcard_value_text.proofs.Readers.{Took, Misses, after_phrase, prefixed, refused, took_sign}
-use Rattle.postcard_value_text.proofs.Signs.{takes_none, none_taken}
+use Rattle.postcard_value_text.proofs.Readers.{Took, Misses, after_phrase, prefixed, refused, took_sign, fails_with}
 
 -- The trees of values in a row.
 abbrev pub row : List Value → Trees
@@ -176,13 +173,9 @@ module _ (closing : ℕ) (N : Type 0) (R : Tree → Type 0) (S : Speller) (is : 
   module _ {a : List ℕ} (some : Misses (IsSign closing) a) where
     -- The next value is refused.
     pub item_refused : {b : List ℕ} {e : Stop} → ReadsTree N R S a (Err e) b → ReadsRest closing N R S a (Err e) b
-    item_refused h = record {
-      value = tt;
-      spelled = tt;
-      accepted = λ names ts x each k goes.
-          let f = item_front closing S R ts a x is some each k in
-          h.accepted names f.first f.rest f.is f.taken f.goes;
-    }
+    item_refused h = fails_with (λ names ts x each k goes.
+        let f = item_front closing S R ts a x is some each k in
+        h.accepted names f.first f.rest f.is f.taken f.goes)
 
     module _ {m : List ℕ} {v : Value} (one : ReadsTree N R S a (Ok v) m) where
       -- The value is read, and then a `,` is taken.
@@ -254,11 +247,8 @@ module _ {N : Type 0} {R : Tree → Type 0} (S : Speller) (opening closing : ℕ
       none one.0 one.1)
 
   pub list_refused : {m b : List ℕ} {e : Stop} → TakesPhrase (IsSign opening) a m → ReadsRest closing N R S m (Err e) b → ReadsTree N (IsSeq R) (SpellsList opening closing S) a (Err e) b
-  list_refused {e = e} begun h = record {
-    value = tt;
-    spelled = tt;
-    accepted = λ names t x (ts, is, low, each) k goes. (enclosed (Err e) begun h).accepted names ts x each (subst (λ u. TakesPhrase (SpellsList opening closing S u) a x) is k) goes;
-  }
+  list_refused {e = e} begun h = fails_with (λ names t x (ts, is, low, each) k goes.
+      (enclosed (Err e) begun h).accepted names ts x each (subst (λ u. TakesPhrase (SpellsList opening closing S u) a x) is k) goes)
 
   pub list_read : {m b : List ℕ} {vs : List Value} (v : Value) → tree v ≡ nodes.Seq (row vs) → length vs < 2 ^ 64 → TakesPhrase (IsSign opening) a m → ReadsRest closing N R S m (Ok vs) b
       → ReadsTree N (IsSeq R) (SpellsList opening closing S) a (Ok v) b
@@ -280,11 +270,8 @@ module _ {N : Type 0} {R : Tree → Type 0} (S : Speller) (n : ℕ) {a : List �
 
   module _ {m : List ℕ} (begun : TakesPhrase (IsSign 91) a m) where
     pub array_refused : {b : List ℕ} {e : Stop} → ReadsRest 93 N R S m (Err e) b → ReadsTree N (IsArray n R) (SpellsArray S) a (Err e) b
-    array_refused {e = e} h = record {
-      value = tt;
-      spelled = tt;
-      accepted = λ names t x (ts, is, many, each) k goes. (enclosed S 91 93 refl (Err e) begun h).accepted names ts x each (subst (λ u. TakesPhrase (SpellsArray S u) a x) is k) goes;
-    }
+    array_refused {e = e} h = fails_with (λ names t x (ts, is, many, each) k goes.
+        (enclosed S 91 93 refl (Err e) begun h).accepted names ts x each (subst (λ u. TakesPhrase (SpellsArray S u) a x) is k) goes)
 
     module _ {b : List ℕ} {vs : List Value} (h : ReadsRest 93 N R S m (Ok vs) b) where
       pub array_read : (v : Value) → tree v ≡ nodes.Group (row vs) → length vs ≡ n → ReadsTree N (IsArray n R) (SpellsArray S) a (Ok v) b

@@ -2,6 +2,7 @@
 use Rattle.std.proofs.Common.{◌≡◌, ℕ, zero, suc, ◌+◌, ◌/◌, ◌%◌, ◌<◌, false, List, [], ◌∷◌, ◌++◌, map, length, take, get_or, Option, Some, None, refl, sym, ap, ◌∙◌, arith}
 use native.Mathlib.Numerals.{add-one}
 use Rattle.std.proofs.Output.{then_text_assoc, displays_on_IsOk_append, displays_on_ok_of_eq, displays_on_ok_of_all, writes_on_IsOk-append}
+use Rattle.std.proofs.lemmas.Grind.{common_steps}
 use Rattle.std.proofs.lemmas.List.{append-nil, append_assoc}
 use Rattle.std.specs.Fmt.{◌++?◌, digits, WritesOnOk, DisplaysOnOk}
 use Rattle.std.specs.Prelude.{Result, Ok, Err, IsErr}
@@ -36,23 +37,20 @@ all_by_trees see p [] = refl
 all_by_trees see p (v ∷ vs) = ap (λ ts. p (see v) ∷ ts) (all_by_trees see p vs)
 
 -- Mapping one element more adds its image.
-map_more : {X Y : Type 0} (h : X → Y) (vs : List X) (i : ℕ) (v : X) → i < length vs → v ≡ get_or vs i v → map h (take (suc i) vs) ≡ map h (take i vs) ++ h v ∷ []
-map_more h [] i v low is = absurd (omega (arith, low))
-map_more h (u ∷ us) zero v low is = ap (λ x. h x ∷ []) (sym is)
-map_more h (u ∷ us) (suc i) v low is = ap (λ ys. h u ∷ ys) (map_more h us i v (omega (arith, low)) is)
+map_more : {X Y : Type 0} (h : X → Y) (vs : List X) (i : ℕ) (v : X) → i < length vs → v ≡ get_or vs i v
+    → map h (take (i + 1) vs) ≡ map h (take i vs) ++ h v ∷ []
+map_more h vs i v low is = grind (arith, common_steps, low, is)
 
 map_length : {X Y : Type 0} (h : X → Y) (vs : List X) (i : ℕ) → i < length vs → length (map h (take i vs)) ≡ i
-map_length h [] i low = absurd (omega (arith, low))
-map_length h (u ∷ us) zero low = refl
-map_length h (u ∷ us) (suc i) low = ap suc (map_length h us i (omega (arith, low)))
+map_length h vs i low = grind (arith, common_steps, low)
 
 -- The text of one element more is the text so far, what leads the element, and the element's text.
 pub elements_more : {X : Type 0} (b : List ℕ) (h : X → Option (List ℕ)) (vs : List X) (i : ℕ) (v : X) → i < length vs → v ≡ get_or vs i v
     → joined b (map h (take (i + 1) vs)) ≡ joined b (map h (take i vs)) ++? (Some (lead i b) ++? h v)
 elements_more b h vs i v low is =
-    rw (add-one i) (ap (joined b) (map_more h vs i v low is)
+    ap (joined b) (map_more h vs i v low is)
     ∙ joined_more b (map h (take i vs)) (h v)
-    ∙ ap (λ n. joined b (map h (take i vs)) ++? (Some (lead n b) ++? h v)) (map_length h vs i low))
+    ∙ ap (λ n. joined b (map h (take i vs)) ++? (Some (lead n b) ++? h v)) (map_length h vs i low)
 
 -- The same of elements whose trees are printed.
 pub items_more : {X : Type 0} (b : List ℕ) (see : X → Tree) (p : Printer) (vs : List X) (i : ℕ) (v : X) → i < length vs → v ≡ get_or vs i v

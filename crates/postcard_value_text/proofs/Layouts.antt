@@ -1,16 +1,16 @@
 -- Lemmas on the layouts of schemas, and on the printers of schemas in a row.
 use Rattle.std.proofs.Common.{◌≡◌, ℕ, zero, suc, ◌+◌, ◌<◌, true, false, List, [], ◌∷◌, map, length, take, get_or, Some, Box, Vec, string_bytes, refl, sym, ap, ◌∙◌, rules, arith}
 use Rattle.std.specs.declared.alloc.Global.{Global}
+use Rattle.std.proofs.lemmas.Grind.{common_steps}
 use Rattle.std.specs.Fmt.{◌++?◌}
 use Rattle.std.specs.Bool.{◌==◌}
 use Rattle.std.proofs.Math.Dec.{eqb-suc-zero}
 use Rattle.postcard_wire.specs.Tree.{Tree, NoTrees, Then, trees}
-use Rattle.postcard_schema.specs.Meaning.{types_of, no_types}
 use Rattle.postcard_schema.specs.declared.leaf.Leaf.{Leaf}
-use Rattle.postcard_schema.specs.declared.schema.Named.{Named}
 use Rattle.postcard_schema.specs.declared.schema.Schema.{Schema, the_lemmas}
 use Rattle.postcard_schema.specs.declared.schema.Schema.TheShapes.{former-Schema-Struct-0-at-2}
 use Rattle.postcard_schema.specs.declared.schema.Schema.TheVariants as schemas
+use Rattle.postcard_value_text.specs.{Named, no_types, types_of}
 use Rattle.postcard_value_text.specs.Layout.{Layout, leaf, option, list, mapping, array, tuple, structure, choice, then_field, field_row, layout_of, layouts_of, fields_of, is_unit, has_brackets}
 use Rattle.postcard_value_text.specs.Shown.{Printer, text, texts, field_text, field_texts, text_at, variant_text, tuple_end, lead, joined, each_by, enclosed, content_text}
 use Rattle.postcard_value_text.proofs.Joined.{parts_more}
@@ -77,10 +77,9 @@ struct_more b see ns vs i n v few low is here = rw (field_texts_map ns) (parts_m
 
 -- The trees of two values.
 pub pair_trees : {X : Type 0} (see : X → Tree) (vs : List X) (u v : X) → length vs ≡ 2 → u ≡ get_or vs 0 u → v ≡ get_or vs 1 v → trees (map see vs) ≡ Then (see u) (Then (see v) NoTrees)
-pair_trees see [] u v two first second = absurd (omega (arith, two))
-pair_trees see (x ∷ []) u v two first second = absurd (omega (arith, two))
-pair_trees see (x ∷ y ∷ []) u v two first second = rw (first, second) refl
-pair_trees see (x ∷ y ∷ z ∷ vs) u v two first second = absurd (omega (arith, two))
+pair_trees see vs u v two first second =
+    let pair : map see vs ≡ see u ∷ see v ∷ [] = grind (arith, common_steps, two, first, second) in
+    ap trees pair
 
 -- The printer of a variant is at its index.
 pub variant_at : (ns : List (Named Schema)) (i : ℕ) (n : Named Schema) → i < length ns → n ≡ get_or ns i n

@@ -5,7 +5,6 @@ use Rattle.postcard_wire.specs.Tree.{Byte, Seq, trees}
 use Rattle.postcard_wire.specs.Reading.{IsByte, IsSeq, IsArray, Each}
 use Rattle.postcard_ser.proofs.Elements.{elements_count}
 use Rattle.postcard_shape.specs.Base256.{AreBytes}
-use Rattle.postcard_schema.specs.Leaves.{is_signed, size_of}
 use Rattle.postcard_schema.specs.Meaning.{integer_reads}
 use Rattle.postcard_schema.specs.declared.leaf.ByteOrder.{ByteOrder}
 use Rattle.postcard_schema.specs.declared.leaf.Integer.{Integer}
@@ -13,7 +12,7 @@ use Rattle.postcard_schema.specs.declared.leaf.Integer.TheVariants.{U8, U16, U32
 use Rattle.postcard_schema.specs.declared.leaf.Leaf.TheVariants as leaves
 use Rattle.postcard_value.specs.Numbers.{bytes_of, fixed_tree, integer_tree, order_of, signed_of}
 use Rattle.postcard_value.specs.NumberLemmas.{bits_are_of, by_size, spell_modulo, value_of_bytes}
-use Rattle.postcard_value_text.specs.Shown.{bits_text, leaf_text}
+use Rattle.postcard_value_text.specs.{bits_text, is_signed, leaf_text, size_of}
 
 -- The bits that a type has are below 256 ^ its size.
 pub low_below : (n : ℕ) (i : Integer) → n % 256 ^ size_of i < 256 ^ size_of i
@@ -51,19 +50,7 @@ is_fixed order k n =
     let p = o.spell k n in
     (trees (map Byte p), refl, elements_count Byte p ∙ o.counts k n, bytes_each p (o.bytes k n))
 
--- The text of a number is that of the bits that its type has.
-pub integer_shown : (i : Integer) (n : ℕ) → leaf_text (leaves.Integer i) (integer_tree i n) ≡ Some (bits_text (is_signed i) (size_of i) (n % 256 ^ size_of i))
-integer_shown U8 n = refl
-integer_shown U16 n = refl
-integer_shown U32 n = refl
-integer_shown U64 n = refl
-integer_shown U128 n = refl
-integer_shown I8 n = refl
-integer_shown I16 n = refl
-integer_shown I32 n = refl
-integer_shown I64 n = refl
-integer_shown I128 n = refl
-
+-- The text of a number at its full width is that of the bits that its type has.
 pub fixed_shown : (order : ByteOrder) (i : Integer) (n : ℕ) → leaf_text (leaves.Fixed order i) (fixed_tree order (size_of i) n) ≡ Some (bits_text (is_signed i) (size_of i) (n % 256 ^ size_of i))
 fixed_shown order i n =
     let o = order_of order in

@@ -1,7 +1,6 @@
 pub mod Readers
 pub mod Quotes
 pub mod FloatTexts
-pub mod FloatFronts
 pub mod Fronts
 pub mod Numbers
 pub mod QuotedFronts
@@ -11,8 +10,6 @@ pub mod LeafFronts
 pub mod PlainTexts
 pub mod Joined
 pub mod Layouts
-pub mod Signs
-pub mod FieldNames
 pub mod Openings
 pub mod Distinct
 pub mod Items

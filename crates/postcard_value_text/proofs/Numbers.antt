@@ -5,7 +5,6 @@ use Rattle.std.specs.Int.{w128}
 use Rattle.std.specs.Prelude.{FitsSigned, Option, Some, None, IfSome, IfNone, SomeIff}
 use Rattle.std.specs.Str.Parse.{starts_with_minus, without_leading_plus, without_leading_sign}
 use Rattle.std.proofs.lemmas.Int.{ints}
-use Rattle.std.proofs.lemmas.Str.Parse.{without_leading_plus_none}
 use Rattle.postcard_schema_text.specs.declared.literal.LiteralError.{LiteralError}
 use Rattle.postcard_schema_text.specs.declared.literal.LiteralError.TheVariants.{Malformed, TooLarge}
 use Rattle.postcard_schema_text.specs.Literals.{IsLiteral, IsNoNumber}
@@ -46,15 +45,6 @@ signed_refused i text z None is h = λ n (y, bits, k). h n (subst (λ x. IsBitsO
 signed_refused i text z (Some n) is h = tt
 
 -- ---- signs
-
--- A word without its leading `+` is what follows it.
-pub plus_taken : (word rest : List ℕ) → word ≡ codes "+" ++ rest → without_leading_plus word ≡ rest
-plus_taken word rest e = rw e refl
-
--- A word that doesn't begin with `+` has none to strip.
-pub plus_none : (word : List ℕ) → ((rest : List ℕ) → word ≢ codes "+" ++ rest) → without_leading_plus word ≡ word
-plus_none [] none = without_leading_plus_none [] (λ e. omega (arith, e))
-plus_none (c ∷ cs) none = without_leading_plus_none (c ∷ cs) (λ e. none cs (ap (λ x. x ∷ cs) e))
 
 pub minus_taken : (word rest : List ℕ) → word ≡ codes "-" ++ rest → (starts_with_minus word ≡ true) × (without_leading_sign word ≡ rest)
 minus_taken word rest e = rw e (refl, refl)
@@ -104,18 +94,11 @@ minus_found word rest n (Some x) z e is (fits, eq) same =
     (n, subst (IsLiteral n) (sym k.1) is, eq ∙ same ∙ ap (λ b. cond b (minus n) (pos n)) (sym k.0))
 
 -- The word denotes no number that fits, since the only number that it denotes doesn't fit.
-pub minus_refused : (word rest : List ℕ) (n : ℕ) (r : Option ℤ) (z : ℤ) → word ≡ codes "-" ++ rest → IsLiteral n rest → SomeIff r (FitsSigned w128 z) z → z ≡ minus n
+pub signed_none : (f : ℕ → ℤ) (word digits : List ℕ) (n : ℕ) (r : Option ℤ) (z : ℤ)
+    → ((y : ℤ) → FitsSigned w128 y → IsSigned y word → SignedBy f digits y) → IsLiteral n digits → SomeIff r (FitsSigned w128 z) z → z ≡ f n
     → IfNone r ((y : ℤ) → FitsSigned w128 y → IsSigned y word → ⊥)
-minus_refused word rest n None z e is some same = λ y fits h.
-    let (m, low, literal, value) = minus_spelled word rest y e fits h in
-    let number : m ≡ n = one_literal m n rest literal is in
-    some (subst (FitsSigned w128) (value ∙ ap minus number ∙ sym same) fits)
-minus_refused word rest n (Some x) z e is some same = tt
-
-pub plain_refused : (word digits : List ℕ) (n : ℕ) (r : Option ℤ) (z : ℤ) → ((rest : List ℕ) → word ≢ codes "-" ++ rest) → digits ≡ without_leading_plus word → IsLiteral n digits
-    → SomeIff r (FitsSigned w128 z) z → z ≡ pos n → IfNone r ((y : ℤ) → FitsSigned w128 y → IsSigned y word → ⊥)
-plain_refused word digits n None z none plus is some same = λ y fits h.
-    let (m, low, literal, value) = plain_spelled word y none fits h in
-    let number : m ≡ n = one_literal m n (without_leading_plus word) literal (subst (IsLiteral n) plus is) in
-    some (subst (FitsSigned w128) (value ∙ ap pos number ∙ sym same) fits)
-plain_refused word digits n (Some x) z none plus is some same = tt
+signed_none f word digits n None z spelled is some same = λ y fits h.
+    let (m, low, literal, value) = spelled y fits h in
+    let number : m ≡ n = one_literal m n digits literal is in
+    some (subst (FitsSigned w128) (value ∙ ap f number ∙ sym same) fits)
+signed_none f word digits n (Some x) z spelled is some same = tt

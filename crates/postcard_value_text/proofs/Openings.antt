@@ -6,20 +6,18 @@ use Rattle.std.specs.Float.{Format}
 use Rattle.std.specs.List.{AllPass}
 use Rattle.postcard_wire.specs.Tree.{Tree, Boolean, Text, NoTrees}
 use Rattle.postcard_wire.specs.Tree as nodes
-use Rattle.postcard_schema.specs.Leaves.{is_signed}
 use Rattle.postcard_schema.specs.declared.leaf.Leaf.{Leaf}
 use Rattle.postcard_schema.specs.declared.leaf.Leaf.TheVariants as leaves
 use Rattle.postcard_schema_text.specs.Text.{unblank, is_of_word, Led, Then, TakesPhrase, IsSign, IsWord}
 use Rattle.postcard_schema_text.specs.Fronts.{Starts}
 use Rattle.postcard_schema_text.specs.FrontLemmas.{pass_head, takes_split, sign_unblank, word_unblank}
-use Rattle.postcard_value_text.specs.Accepted.{HasDistinctNames, AreNamed}
-use Rattle.postcard_value_text.specs.Floats.{is_of_float, SpellsFloat, format_of}
-use Rattle.postcard_value_text.specs.Numbers.{HasBits}
+use Rattle.postcard_value_text.specs.{AreNamed, HasBits, HasDistinctNames, is_signed}
+use Rattle.postcard_value_text.specs.Floats.{is_of_float, IsFloatWord, IsHexadecimal, SpellsFloat, format_of}
 use Rattle.postcard_value_text.specs.Quoted.{IsQuoted, ArePieces}
 use Rattle.postcard_value_text.specs.Layout.{Layout, Fields, leaf, option, list, mapping, array, tuple, structure, choice, no_fields, then_field}
 use Rattle.postcard_value_text.specs.Spelled.{Phrase, Speller, IsTruth, SpellsLeaf, SpellsContent, SpellsEntry, AreClosed, phrases, SpellsTree, SpellsAt, part_phrases, field_phrases}
 use Rattle.postcard_value_text.proofs.Fronts.{AreScalars, scalar_after_blanks, bits_scalars, truth_scalars}
-use Rattle.postcard_value_text.proofs.FloatFronts.{number_first, nan_first, float_all}
+use Rattle.postcard_value_text.proofs.FloatTexts.{float_scalars}
 
 -- Whether a byte may begin a value: whether it is neither `]` nor `}`.
 abbrev pub begins_value : ℕ → Bool
@@ -53,16 +51,9 @@ scalar_opens P a r each h = by (scalar_after_blanks P a r each h)
     by (x ∷ word, p, some, all, e) = (x, word ++ r, e, float_begins x (pass_head is_of_float x word all))
 
 float_opens : (f : Format) (bits : ℕ) (a r : List ℕ) → TakesPhrase (SpellsFloat f bits) a r → Starts begins_value a
-float_opens f bits a r (front, inl p, whole) =
-    let k = number_first f bits a r (front, p, whole) in
-    by k.word (float_all f k.reads.0 k.word k.reads.1).0 k.all k.first
-  where
-    by : (word : List ℕ) → 0 < length word → AllPass is_of_float word → unblank a ≡ word ++ r → Starts begins_value a
-    by [] some all e = absurd (omega (arith, some))
-    by (x ∷ word) some all e = (x, word ++ r, e, float_begins x (pass_head is_of_float x word all))
+float_opens f bits a r (front, inl p, whole) = scalar_opens (IsFloatWord f bits) a r (float_scalars f bits) (front, p, whole)
 float_opens f bits a r (front, inr p, whole) =
-    let k = nan_first f bits a r (front, p, whole) in
-    (110, 97 ∷ 110 ∷ k.back, k.first, refl)
+    then_word_opens (codes "nan") (Then (IsSign 40) (Then (IsHexadecimal bits) (IsSign 41))) a r (omega arith) (front, p.1, whole)
 
 quoted_opens : (quote : ℕ) (held a r : List ℕ) → is_ascii_whitespace quote ≡ false → begins_value quote ≡ true → TakesPhrase (IsQuoted quote held) a r → Starts begins_value a
 quoted_opens quote held a r black begins h = then_sign_opens quote (Then (ArePieces quote held) (λ end. end ≡ quote ∷ [])) a r black begins h
@@ -87,19 +78,13 @@ pub tree_opens : (x : Layout) (t : Tree) (a r : List ℕ) → HasDistinctNames x
 tree_opens (leaf l) t a r names h = leaf_opens l t a r h
 tree_opens (option x) nodes.Absent a r names h = word_opens (codes "None") a r (omega arith) h
 tree_opens (option x) (nodes.Present t) a r names h = then_word_opens (codes "Some") (Then (IsSign 40) (Then (SpellsTree x t) (IsSign 41))) a r (omega arith) h
-tree_opens (option x) t a r names (front, none, whole) = absurd none
 tree_opens (list x) (nodes.Seq ts) a r names h = then_sign_opens 91 (AreClosed 93 (phrases (SpellsTree x) ts)) a r refl refl h
-tree_opens (list x) t a r names (front, none, whole) = absurd none
 tree_opens (mapping x y) (nodes.Seq ts) a r names h = then_sign_opens 123 (AreClosed 125 (phrases (SpellsEntry (SpellsTree x) (SpellsTree y)) ts)) a r refl refl h
-tree_opens (mapping x y) t a r names (front, none, whole) = absurd none
 tree_opens (array x) (nodes.Group ts) a r names h = then_sign_opens 91 (AreClosed 93 (phrases (SpellsTree x) ts)) a r refl refl h
-tree_opens (array x) t a r names (front, none, whole) = absurd none
 tree_opens (tuple xs) (nodes.Group ts) a r names h = then_sign_opens 40 (AreClosed 41 (part_phrases xs ts)) a r refl refl h
-tree_opens (tuple xs) t a r names (front, none, whole) = absurd none
 tree_opens (structure fs) (nodes.Group ts) a r names h = then_sign_opens 123 (AreClosed 125 (field_phrases fs ts)) a r refl refl h
-tree_opens (structure fs) t a r names (front, none, whole) = absurd none
 tree_opens (choice fs) (nodes.Variant i t) a r names h = variant_opens fs i t a r names.1 h
-tree_opens (choice fs) t a r names (front, none, whole) = absurd none
+tree_opens x t a r names (front, none, whole) = absurd none
 
 -- An entry of a map begins with its key, and so with no closing bracket.
 pub entry_opens : (x : Layout) (V : Speller) (t : Tree) (a r : List ℕ) → HasDistinctNames x → TakesPhrase (SpellsEntry (SpellsTree x) V t) a r → Starts begins_value a

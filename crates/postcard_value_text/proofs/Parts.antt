@@ -1,24 +1,23 @@
 -- Reading parts in a row: those of a tuple, or the fields of a struct.
-use Rattle.std.proofs.Common.{◌≡◌, ℕ, ◌+◌, ◌<◌, Bool, true, false, List, [], ◌∷◌, ◌++◌, length, drop, get_or, refl, sym, ap, subst, ◌∙◌}
+use Rattle.std.proofs.Common.{◌≡◌, ℕ, ◌+◌, ◌<◌, Bool, true, false, List, [], ◌∷◌, ◌++◌, length, drop, get_or, refl, sym, ap, subst, ◌∙◌, arith}
 use Rattle.std.specs.Prelude.{Result, Ok, Err}
 use Rattle.std.specs.Bool.{◌==◌}
-use Rattle.std.proofs.Math.Dec.{eqb-suc-zero}
+use Rattle.std.proofs.lemmas.Bool.Decides.{nat_tests}
+use Rattle.std.proofs.lemmas.Grind.{common_steps}
 use Rattle.std.proofs.lemmas.List.{drop_more}
 use Rattle.postcard_wire.specs.Tree.{Tree, Trees, NoTrees}
 use Rattle.postcard_wire.specs.Tree as nodes
 use Rattle.postcard_wire.specs.Reading.{IsEnd, IsThen}
-use Rattle.postcard_schema_text.specs.Text.{Then, TakesPhrase, IsSign}
 use Rattle.postcard_schema_text.specs.FrontLemmas.{takes_split}
 use Rattle.postcard_schema_text.specs.Phrases.{takes_two}
 use Rattle.postcard_value.specs.declared.value.Value.{Value}
-use Rattle.postcard_value.specs.Tree.{tree}
+use Rattle.postcard_value_text.specs.{IsSign, TakesPhrase, Then, tree}
 use Rattle.postcard_value_text.specs.declared.error.Stop.{Stop}
 use Rattle.postcard_value_text.specs.Accepted.{FollowsValue, ReadsAs, ReadsText, ReadsTree}
 use Rattle.postcard_value_text.specs.Spelled.{Phrase, Speller, Row, RowAfter, Unless}
-use Rattle.postcard_value_text.proofs.Fronts.{sign_follows}
+use Rattle.postcard_value_text.proofs.Fronts.{sign_follows, takes_none, none_taken}
 use Rattle.postcard_value_text.proofs.Items.{one_more, row}
-use Rattle.postcard_value_text.proofs.Readers.{Took, Misses, prefixed, refused}
-use Rattle.postcard_value_text.proofs.Signs.{takes_none, none_taken}
+use Rattle.postcard_value_text.proofs.Readers.{Took, Misses, prefixed, refused, fails_with}
 
 -- ---- parts in a row
 
@@ -104,13 +103,9 @@ module _ {A : Type 0} (N : Type 0) (R : A → Tree → Type 0) (S : A → Spelle
     module _ {m : List ℕ} (lead : Took N (Unless first (IsSign 44)) a m) where
       -- The part is refused.
       pub part_refused : {b : List ℕ} {e : Stop} → ReadsTree N (R y) (S y) m (Err e) b → ReadsParts N R S first (y ∷ ys) a (Err e) b
-      part_refused h = record {
-        value = tt;
-        spelled = tt;
-        accepted = λ names ts x is k goes.
-            let f = part_front R S first y ys a ts x is k goes in
-            h.accepted names f.one f.rest f.is (subst (λ t. TakesPhrase (S y f.one) t f.rest) (sym (lead.only names f.mid f.led)) f.taken) f.goes;
-      }
+      part_refused h = fails_with (λ names ts x is k goes.
+          let f = part_front R S first y ys a ts x is k goes in
+          h.accepted names f.one f.rest f.is (subst (λ t. TakesPhrase (S y f.one) t f.rest) (sym (lead.only names f.mid f.led)) f.taken) f.goes)
 
       -- The part is read, and then the others are.
       pub part_read : {n : List ℕ} {v : Value} → ReadsTree N (R y) (S y) m (Ok v) n → (r : Result (List Value) Stop) (b : List ℕ)
@@ -134,8 +129,7 @@ module _ {A : Type 0} (N : Type 0) (R : A → Tree → Type 0) (S : A → Spelle
 
 -- The list of values isn't empty once one is read.
 pub not_none : (done more : List Value) (v : Value) → more ≡ done ++ v ∷ [] → (length more == 0) ≡ false
-not_none [] more v is = rw is refl
-not_none (u ∷ us) more v is = rw is (eqb-suc-zero (length (us ++ v ∷ [])))
+not_none done more v is = grind (arith, common_steps, nat_tests, is)
 
 -- The parts that are left, from the next one on.
 pub next_part : {A : Type 0} (xs : List A) (i : ℕ) (x : A) → i < length xs → x ≡ get_or xs i x → drop i xs ≡ x ∷ drop (i + 1) xs

@@ -44,12 +44,9 @@ no_quote quote held a b r black h none =
 piece_begins : (quote : ℕ) (held text more a : List ℕ) (byte : ℕ) → IsPiece quote held text → text ++ more ≡ byte ∷ a
     → ((byte ≢ quote) × (byte ≢ 92) × (held ≡ byte ∷ []) × (more ≡ a)) ⊎ ((byte ≡ 92) × ((escape : List ℕ) × IsEscape held escape × (escape ++ more ≡ a)))
 piece_begins quote held text more a byte (inl (x, other, plain, is, e)) whole =
-    let here : x ∷ more ≡ byte ∷ a = sym (ap (λ t. t ++ more) e) ∙ whole in
-    let first : x ≡ byte = same_first here in
-    inl (subst (λ y. y ≢ quote) first other, subst (λ y. y ≢ 92) first plain, is ∙ ap (λ y. y ∷ []) first, same_rest here)
-piece_begins quote held text more a byte (inr (escape, is, e)) whole =
-    let here : 92 ∷ (escape ++ more) ≡ byte ∷ a = sym (ap (λ t. t ++ more) e) ∙ whole in
-    inr (sym (same_first here), (escape, is, same_rest here))
+    let first : x ≡ byte = cc in
+    inl (subst (λ y. y ≢ quote) first other, subst (λ y. y ≢ 92) first plain, cc, cc)
+piece_begins quote held text more a byte (inr (escape, is, e)) whole = inr (cc, (escape, is, cc))
 
 -- What comes next: the quote at the end, a plain byte or an escape.
 pub Next : ℕ → List ℕ → List ℕ → List ℕ → ℕ → List ℕ → Type 0
@@ -68,31 +65,14 @@ pieces_next quote byte done held a r h = by h.more h.each h.whole h.left
     by (p ∷ ps) each whole left =
         let after = flat_map (λ p. p.1) ps ++ quote ∷ r in
         let all : p.1 ++ after ≡ byte ∷ a = sym (left ∙ append_assoc p.1 (flat_map (λ p. p.1) ps) (quote ∷ r)) in
+        let others = flat_map (λ p. p.0) ps in
         elim (piece_begins quote p.0 p.1 after a byte each.0 all) [
-          | inl k ↦ inr (inl (
-            k.0,
-            k.1,
-            record {
-              more = ps;
-              each = each.1;
-              whole = whole ∙ ap (λ t. done ++ (t ++ flat_map (λ p. p.0) ps)) k.2 ∙ sym (append_assoc done (byte ∷ []) (flat_map (λ p. p.0) ps));
-              left = sym k.3;
-            },
-          ))
-          | inr k ↦ inr (inr (
-            k.0,
-            (
-              p.0,
-              after,
-              (k.1.0, k.1.1, sym k.1.2),
-              record {
-                more = ps;
-                each = each.1;
-                whole = whole ∙ sym (append_assoc done p.0 (flat_map (λ p. p.0) ps));
-                left = refl;
-              },
-            ),
-          ))
+          | inl k ↦
+              let held_is = whole ∙ ap (λ t. done ++ (t ++ others)) k.2 ∙ sym (append_assoc done (byte ∷ []) others) in
+              inr (inl (k.0, k.1, record { more = ps; each = each.1; whole = held_is; left = sym k.3 }))
+          | inr k ↦
+              let held_is = whole ∙ sym (append_assoc done p.0 others) in
+              inr (inr (k.0, (p.0, after, (k.1.0, k.1.1, sym k.1.2), record { more = ps; each = each.1; whole = held_is; left = refl })))
         ]
 
 -- Where a quote is next, no piece is left.
@@ -180,8 +160,8 @@ pub record LetterEscape (letter : ℕ) (held b r : List ℕ) : Type 0 where
 -- After a letter other than `u`, the escape is the byte of that letter.
 pub letter_of : (letter : ℕ) (held a b r : List ℕ) → TakesPhrase (IsEscape held) a r → a ≡ letter ∷ b → letter ≢ 117 → LetterEscape letter held b r
 letter_of letter held a b r (front, inl (other, byte, stands, is, e), whole) first differs =
-    let here : letter ∷ b ≡ other ∷ r = sym first ∙ whole ∙ ap (λ t. t ++ r) e in
-    record { byte = byte; stands = subst (λ l. StandsFor l byte) (sym (same_first here)) stands; is = is; left = same_rest here }
+    let here : other ≡ letter = cc in
+    record { byte = byte; stands = subst (λ l. StandsFor l byte) here stands; is = is; left = cc }
 letter_of letter held a b r (front, inr (c, code, is, stands, e), whole) first differs =
     absurd (differs (same_first (sym first ∙ whole ∙ ap (λ t. t ++ r) e)))
 
@@ -253,15 +233,12 @@ code_digit count code c byte a b r h first other = by h.digits h.all h.says h.fe
 -- Digits denote the bytes of one list.
 pub one_bytes : (bs cs text : List ℕ) → AreDigitsOf bs text → AreDigitsOf cs text → bs ≡ cs
 one_bytes [] [] text h k = refl
-one_bytes [] (c ∷ cs) text none (x, y, rest, p, q, is, more, whole) = absurd (not_empty (sym none ∙ whole))
-one_bytes (b ∷ bs) [] text (x, y, rest, p, q, is, more, whole) none = absurd (not_empty (sym none ∙ whole))
+one_bytes [] (c ∷ cs) text none (x, y, rest, p, q, is, more, whole) = cc
+one_bytes (b ∷ bs) [] text (x, y, rest, p, q, is, more, whole) none = cc
 one_bytes (b ∷ bs) (c ∷ cs) text (x, y, rest, p, q, is, more, whole) (u, v, other, l, m, are, after, all) =
-    let e : x ∷ y ∷ rest ≡ u ∷ v ∷ other = sym whole ∙ all in
-    let first : x ≡ u = same_first e in
-    let second : y ≡ v = same_first (same_rest e) in
-    let third : other ≡ rest = sym (same_rest (same_rest e)) in
-    let same : b ≡ c = is ∙ ap (λ z. digit_value z * 16 + digit_value y) first ∙ ap (λ z. digit_value u * 16 + digit_value z) second ∙ sym are in
-    ap (λ z. z ∷ bs) same ∙ ap (λ t. c ∷ t) (one_bytes bs cs rest more (subst (AreDigitsOf cs) third after))
+    let third : other ≡ rest = cc in
+    let tail : bs ≡ cs = one_bytes bs cs rest more (subst (AreDigitsOf cs) third after) in
+    cc
 
 -- The word that is next is `0x` and the digits of the bytes.
 pub record BytesFront (bytes word left r : List ℕ) : Type 0 where

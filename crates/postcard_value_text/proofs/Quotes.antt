@@ -2,12 +2,11 @@
 use Rattle.std.proofs.Common.{◌≡◌, ◌≢◌, ℕ, ◌+◌, ◌*◌, ◌^◌, ◌<◌, ◌≤◌, List, [], ◌∷◌, ◌++◌, length, refl, sym, ap, ◌∙◌, arith, inl, inr}
 use Rattle.std.proofs.Math.Nat.{pow-le-pow_right}
 use Rattle.std.proofs.lemmas.Grind.{common_steps}
-use Rattle.std.proofs.lemmas.List.{append_assoc, append-nil, length-append}
-use Rattle.std.proofs.lemmas.Int.Digits.{digits_value-lt}
-use Rattle.std.specs.Prelude.{Result, Ok, Err, OnOk}
-use Rattle.std.specs.List.{AllByRecursion, flat_map}
+use Rattle.std.proofs.lemmas.List.{append_assoc, append-nil, flat_map_more, length_push}
+use Rattle.std.proofs.lemmas.Int.Digits.{digits_push, digits_value-lt, digits_value_push}
+use Rattle.std.specs.List.{AllByRecursion}
 use Rattle.std.specs.Char.{IsScalar, digit_value, encode_utf8}
-use Rattle.std.specs.Str.Parse.{AllDigits, digits_value, digits_value_after}
+use Rattle.std.specs.Str.Parse.{AllDigits, digits_value}
 use Rattle.postcard_schema_text.specs.Text.{Then, TakesPhrase, IsSign, IsWord}
 use Rattle.postcard_value_text.specs.Quoted.{StandsFor, IsCode, IsEscape, IsPiece, ArePieces, IsQuoted, AreDigitsOf, IsByteString}
 
@@ -15,25 +14,14 @@ use Rattle.postcard_value_text.specs.Quoted.{StandsFor, IsCode, IsEscape, IsPiec
 abbrev pub HasDigits : ℕ → ℕ → List ℕ → List ℕ → Type 0
 HasDigits count code text rest = (ds : List ℕ) × AllDigits 16 ds × (length ds ≡ count) × (code ≡ digits_value 16 ds) × (text ≡ 123 ∷ ds ++ rest)
 
-all_more : (ds : List ℕ) (d : ℕ) → AllDigits 16 ds → digit_value d < 16 → AllDigits 16 (ds ++ d ∷ [])
-all_more [] d pass low = (low, tt)
-all_more (x ∷ xs) d pass low = (pass.0, all_more xs d pass.1 low)
-
-value_more : (n : ℕ) (ds : List ℕ) (d : ℕ) → digits_value_after 16 n (ds ++ d ∷ []) ≡ digits_value_after 16 n ds * 16 + digit_value d
-value_more n [] d = refl
-value_more n (x ∷ xs) d = value_more (n * 16 + digit_value x) xs d
-
-length_more : (ds : List ℕ) (d : ℕ) → length (ds ++ d ∷ []) ≡ length ds + 1
-length_more ds d = grind (arith, common_steps)
-
 -- Taking one more digit adds it to the code.
 pub digit_more : (count code d : ℕ) (text rest after : List ℕ) → HasDigits count code text rest → rest ≡ d ∷ after → digit_value d < 16
     → HasDigits (count + 1) (code * 16 + digit_value d) text after
 digit_more count code d text rest after (ds, pass, long, is, whole) next low = (
   ds ++ d ∷ [],
-  all_more ds d pass low,
-  length_more ds d ∙ ap (λ n. n + 1) long,
-  ap (λ n. n * 16 + digit_value d) is ∙ sym (value_more 0 ds d),
+  digits_push 16 ds d pass low,
+  length_push ds d ∙ ap (λ n. n + 1) long,
+  ap (λ n. n * 16 + digit_value d) is ∙ sym (digits_value_push 16 ds d),
   whole ∙ ap (λ t. 123 ∷ ds ++ t) next ∙ ap (λ t. 123 ∷ t) (sym (append_assoc ds (d ∷ []) after)),
 )
 
@@ -82,36 +70,30 @@ all_hexadecimal (b ∷ bs) text (x, y, rest, p, q, is, more, whole) = rw whole (
 pub even : (bytes text : List ℕ) → AreDigitsOf bytes text → length text ≡ 2 * length bytes
 even [] text none = ap length none
 even (b ∷ bs) text (x, y, rest, p, q, is, more, whole) =
-    let less = even bs rest more in
-    let here : length text ≡ length rest + 2 = ap length whole ∙ grind (arith, common_steps) in
-    let long : length (b ∷ bs) ≡ length bs + 1 = grind (arith, common_steps) in
-    omega (arith, less, here, long)
-
-digit_at : (front : List ℕ) (x : ℕ) (after : List ℕ) → AllDigits 16 (front ++ x ∷ after) → digit_value x < 16
-digit_at [] x after all = all.0
-digit_at (y ∷ ys) x after all = digit_at ys x after all.1
+    let less = even bs rest more in grind (arith, common_steps, less, whole)
 
 -- Digits of bytes have no other byte among them.
-not_digit : (bytes front : List ℕ) (x : ℕ) (after digits : List ℕ) → digits ≡ front ++ x ∷ after → AreDigitsOf bytes digits → digit_value x < 16
-not_digit bytes front x after digits whole held = digit_at front x after (rw whole at (all_hexadecimal bytes digits held))
+not_digit : (front : List ℕ) (x : ℕ) (after : List ℕ) → AllDigits 16 (front ++ x ∷ after) → digit_value x < 16
+not_digit [] x after all = all.0
+not_digit (y ∷ ys) x after all = not_digit ys x after all.1
 
 -- Where no digit can be taken from the bytes that are left, the text isn't the digits of bytes.
 pub no_bytes : (bytes front rest digits : List ℕ) → digits ≡ front ++ rest → 0 < length rest → ((x : ℕ) (after : List ℕ) → rest ≡ x ∷ after → digit_value x < 16 → ⊥) → AreDigitsOf bytes digits → ⊥
 no_bytes bytes front [] digits whole some none held = absurd (omega (arith, some))
-no_bytes bytes front (x ∷ after) digits whole some none held = none x after refl (not_digit bytes front x after digits whole held)
+no_bytes bytes front (x ∷ after) digits whole some none held = none x after refl (not_digit front x after (rw whole at (all_hexadecimal bytes digits held)))
 
 all_pieces : (q : ℕ) (ps : List (List ℕ × List ℕ)) (p : List ℕ × List ℕ) → AllByRecursion (λ p. IsPiece q p.0 p.1) ps → IsPiece q p.0 p.1 → AllByRecursion (λ p. IsPiece q p.0 p.1) (ps ++ p ∷ [])
 all_pieces q [] p all one = (one, tt)
 all_pieces q (x ∷ xs) p all one = (all.0, all_pieces q xs p all.1 one)
 
-texts_more : (f : List ℕ × List ℕ → List ℕ) (ps : List (List ℕ × List ℕ)) (p : List ℕ × List ℕ) → flat_map f ps ++ f p ≡ flat_map f (ps ++ p ∷ [])
-texts_more f [] p = sym (append-nil (f p))
-texts_more f (x ∷ xs) p = append_assoc (f x) (flat_map f xs) (f p) ∙ ap (λ t. f x ++ t) (texts_more f xs p)
-
 -- Pieces and one more are pieces.
 pieces_more : (q : ℕ) (held text h t : List ℕ) → ArePieces q held text → IsPiece q h t → ArePieces q (held ++ h) (text ++ t)
-pieces_more q held text h t (ps, all, is, whole) one =
-    (ps ++ (h, t) ∷ [], all_pieces q ps (h, t) all one, ap (λ u. u ++ h) is ∙ texts_more (λ p. p.0) ps (h, t), ap (λ u. u ++ t) whole ∙ texts_more (λ p. p.1) ps (h, t))
+pieces_more q held text h t (ps, all, is, whole) one = (
+  ps ++ (h, t) ∷ [],
+  all_pieces q ps (h, t) all one,
+  ap (λ u. u ++ h) is ∙ flat_map_more (λ p. p.0) [] ps (h, t),
+  ap (λ u. u ++ t) whole ∙ flat_map_more (λ p. p.1) [] ps (h, t),
+)
 
 -- The quote and pieces are taken from a text.
 abbrev pub HasPieces : ℕ → List ℕ → List ℕ → List ℕ → Type 0
@@ -144,12 +126,8 @@ code_escape c old new text middle rest added next (code, is, whole) =
 
 -- An escape isn't empty.
 pub escape_shorter : (old new text rest : List ℕ) → (held : List ℕ) × (new ≡ old ++ held) × TakesPhrase (IsEscape held) text rest → length rest < length text
-escape_shorter old new text rest (held, added, (front, inl (letter, byte, stands, is, e), whole)) =
-    let long = ap length whole ∙ length-append front rest in
-    omega (arith, long, ap length e)
-escape_shorter old new text rest (held, added, (front, inr (c, code, stands, is, e), whole)) =
-    let long = ap length whole ∙ length-append front rest in
-    omega (arith, long, ap length e)
+escape_shorter old new text rest (held, added, (front, inl (letter, byte, stands, is, e), whole)) = grind (arith, common_steps, e, whole)
+escape_shorter old new text rest (held, added, (front, inr (c, code, stands, is, e), whole)) = grind (arith, common_steps, e, whole)
 
 -- Taking one more plain byte, or one more escape, adds its bytes.
 pub plain_more : (q byte : ℕ) (held text rest after : List ℕ) → HasPieces q held text rest → rest ≡ byte ∷ after → byte ≢ q → byte ≢ 92 → HasPieces q (held ++ byte ∷ []) text after
@@ -164,8 +142,3 @@ escape_more q held new text rest middle after taken next (h, is, (escape, one, w
 -- Blanks, `0x` and the digits of bytes are a byte string.
 pub bytes_take : (bytes digits word text rest : List ℕ) → TakesPhrase (IsWord word) text rest → word ≡ 48 ∷ 120 ∷ digits → AreDigitsOf bytes digits → TakesPhrase (IsByteString bytes) text rest
 bytes_take bytes digits word text rest (front, spelled, whole) is held = (front, (digits, held, rw is at spelled), whole)
-
--- If P implies Q, a result that is an error or has P is an error or has Q.
-pub on_ok_as : {A F P Q : Type 0} (r : Result A F) → (P → Q) → OnOk r P → OnOk r Q
-on_ok_as (Ok x) f h = f h
-on_ok_as (Err e) f h = tt

@@ -70,9 +70,13 @@ module _ {T U : Type 0} {see : T → U} {N : Type 0} {R : U → Type 0} {S : U �
   pub named_as : {M : Type 0} {r : Result T Stop} → (M → N) → ReadsText see N R S a r b → ReadsText see M R S a r b
   named_as f h = record { value = h.value; spelled = h.spelled; accepted = λ names. h.accepted (f names) }
 
-  -- An error if there is no such prefix.
+  -- An error that is `Memory` if there is such a prefix, or that comes if there is none.
+  pub fails_with : {e : Stop} → (N → (u : U) (x : List ℕ) → R u → TakesPhrase (S u) a x → FollowsValue x → e ≡ Memory)
+      → ReadsText see N R S a (Err e) b
+  fails_with full = record { value = tt; spelled = tt; accepted = full }
+
   pub refused : {e : Stop} → (N → (u : U) (x : List ℕ) → R u → TakesPhrase (S u) a x → FollowsValue x → ⊥) → ReadsText see N R S a (Err e) b
-  refused none = record { value = tt; spelled = tt; accepted = λ names u x is k goes. absurd (none names u x is k goes) }
+  refused none = fails_with (λ names u x is k goes. absurd (none names u x is k goes))
 
   -- An allocation failed.
   pub no_memory : (r : Result T Stop) (e : Stop) → IsErrAnd r (λ y. y ≡ e) → e ≡ Memory → ReadsText see N R S a r b
@@ -115,13 +119,9 @@ module _ {T U : Type 0} (see : T → U) (N : Type 0) (R : U → Type 0) (S : U �
     }
 
     pub refused_before : {a m b : List ℕ} {e : Stop} → ReadsText see N R S a (Err e) m → ReadsText see N R (λ u. Then (S u) (Q u)) a (Err e) b
-    refused_before {a} h = record {
-      value = tt;
-      spelled = tt;
-      accepted = λ names u x is k goes.
-          let s = takes_split (S u) (Q u) a x k in
-          h.accepted names u s.0 is s.1 (follows u s.0 x s.2);
-    }
+    refused_before {a} h = fails_with (λ names u x is k goes.
+        let s = takes_split (S u) (Q u) a x k in
+        h.accepted names u s.0 is s.1 (follows u s.0 x s.2))
 
     pub missed_after : {a m b : List ℕ} {v : T} (e : Stop) → ReadsText see N R S a (Ok v) m → Misses (Q (see v)) m → ReadsText see N R (λ u. Then (S u) (Q u)) a (Err e) b
     missed_after {a} {m} e h none = refused (λ names u x is k goes.

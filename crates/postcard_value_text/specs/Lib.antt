@@ -46,7 +46,8 @@ pub use Rattle.postcard_value_text.specs.Shown.{field_text, field_texts, fields_
 pub use Rattle.postcard_value_text.specs.Shown.{items_text, joined, lead, leaf_text, option_text}
 pub use Rattle.postcard_value_text.specs.Shown.{parts_text, stands_for_itself, text, texts}
 pub use Rattle.postcard_value_text.specs.Shown.{tuple_end, variant_text}
-pub use Rattle.postcard_value_text.specs.Spelled.{AreClosed, IsFieldName, IsQuotedName, IsTruth}
+pub use Rattle.postcard_value_text.specs.Spelled.{AreClosed, InParentheses, IsFieldName, IsQuotedName}
+pub use Rattle.postcard_value_text.specs.Spelled.{IsTruth, option_word}
 pub use Rattle.postcard_value_text.specs.Spelled.{Row, SpellsArray, SpellsAt, SpellsChoice}
 pub use Rattle.postcard_value_text.specs.Spelled.{SpellsContent, SpellsEntry, SpellsField}
 pub use Rattle.postcard_value_text.specs.Spelled.{SpellsGroup, SpellsLeaf, SpellsList, SpellsOption}

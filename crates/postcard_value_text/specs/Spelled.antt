@@ -82,10 +82,19 @@ abbrev pub phrases : Speller → Trees → List Phrase
 phrases S NoTrees = []
 phrases S (nodes.Then t ts) = S t ∷ phrases S ts
 
+-- A value in parentheses.
+abbrev pub InParentheses : Speller → Tree → List ℕ → Type 0
+InParentheses S t text = Then (IsSign 40) (Then (S t) (IsSign 41)) text
+
+-- The first word of an option.
+abbrev pub option_word : Bool → List ℕ
+option_word true = codes "Some"
+option_word false = codes "None"
+
 -- `None`, or `Some` and the content in parentheses.
 abbrev pub SpellsOption : Speller → Tree → List ℕ → Type 0
 SpellsOption S nodes.Absent text = IsWord (codes "None") text
-SpellsOption S (nodes.Present t) text = Then (IsWord (codes "Some")) (Then (IsSign 40) (Then (S t) (IsSign 41))) text
+SpellsOption S (nodes.Present t) text = Then (IsWord (codes "Some")) (InParentheses S t) text
 SpellsOption S t text = ⊥
 
 -- The elements of a list, or the entries of a map, in brackets.
@@ -117,7 +126,7 @@ abbrev pub SpellsContent : Layout → Speller → Tree → List ℕ → Type 0
 SpellsContent (tuple no_layouts) S t text = (t ≡ nodes.Group NoTrees) × (text ≡ [])
 SpellsContent (tuple (then_layout x xs)) S t text = S t text
 SpellsContent (structure fs) S t text = S t text
-SpellsContent x S t text = Then (IsSign 40) (Then (S t) (IsSign 41)) text
+SpellsContent x S t text = InParentheses S t text
 
 -- A variant: its name and its content.
 abbrev pub SpellsVariant : List ℕ → Layout → Speller → Tree → List ℕ → Type 0

@@ -3,12 +3,12 @@
 ghost use Rattle.std.specs.Prelude.{◌≡◌, ℕ, ◌<◌, ◌^◌, ◌++◌, ◌/◌, ◌%◌, Bool, List, codes, false};
 ghost use Rattle.std.specs.Prelude.{map, slice_index, IfOk, IfSome, IfNone, MatchResult};
 ghost use Rattle.postcard_value_text.specs.{Accepts, Byte, DisplaysOnOk, EndsNumber, EndsWord};
-ghost use Rattle.postcard_value_text.specs.{IsByteString, IsQuoted, IsScalar, IsTruth, Led, ReadsAs};
-ghost use Rattle.postcard_value_text.specs.{ShowsFloat, SpellsLeaf, TakesPhrase, WritesOnOk};
-ghost use Rattle.postcard_value_text.specs.{bits_text, debug_str, digits, encode_utf8, float_size};
-ghost use Rattle.postcard_value_text.specs.{format_of, hexadecimal, is_signed, leaf_reads};
-ghost use Rattle.postcard_value_text.specs.{leaf_text, list_all, size_of, stands_for_itself, tree};
-ghost use Rattle.postcard_value_text.specs.{trees};
+ghost use Rattle.postcard_value_text.specs.{IsByteString, IsQuoted, IsScalar, IsTruth, Led};
+ghost use Rattle.postcard_value_text.specs.{ReadsAs, ReadsTree, ShowsFloat, SpellsLeaf};
+ghost use Rattle.postcard_value_text.specs.{TakesPhrase, WritesOnOk, bits_text, debug_str, digits};
+ghost use Rattle.postcard_value_text.specs.{encode_utf8, float_size, format_of, hexadecimal};
+ghost use Rattle.postcard_value_text.specs.{is_signed, leaf_reads, leaf_text, list_all, size_of};
+ghost use Rattle.postcard_value_text.specs.{stands_for_itself, tree, trees};
 ghost use Rattle.postcard_schema.specs.declared.leaf.Leaf.TheVariants as leaves;
 ghost use Rattle.postcard_value.specs.declared.value.Value.TheVariants as values;
 
@@ -33,6 +33,14 @@ pub fn read_leaf(alloc: Global, leaf: Leaf, rest: &mut &[u8]) -> Result<Value, S
     ensures spelled { IfOk result (λ v. TakesPhrase (SpellsLeaf leaf (tree v))
         rest.old.now rest.new.now) }
     ensures accepted { Accepts (leaf_reads leaf) (SpellsLeaf leaf) rest.old.now result rest.new.now }
+{
+    read_value(alloc, leaf, rest)
+}
+
+/// Does what [`read_leaf`] does, by one clause.
+fn read_value(alloc: Global, leaf: Leaf, rest: &mut &[u8]) -> Result<Value, Stop<'static>>
+    ensures { ReadsTree (Unit {0}) (leaf_reads leaf) (SpellsLeaf leaf)
+        rest.old.now result rest.new.now }
 {
     skip_blanks(rest);
     match leaf {
@@ -161,6 +169,7 @@ fn show_bits<W: Write>(integer: Integer, bits: u128, f: &mut Formatter<W>) -> fm
 
 /// Prints a string between double quotes, with escapes. A string that needs no escapes is written
 /// in one piece.
+#[tactic(auto, using(crate::proofs::Joined::displays_failed))]
 fn show_text<W: Write>(text: &str, f: &mut Formatter<W>) -> fmt::Result
     ensures { DisplaysOnOk W.write_str_gives f.old result (debug_str text.now) f.new }
 {

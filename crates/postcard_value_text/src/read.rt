@@ -1,16 +1,18 @@
 //! Reading a value from its text: [`read_text`]. A function that returns a [`Stop`] stops where the
 //! text isn't what it takes, and with `Memory` if an allocation fails.
 
-ghost use Rattle.std.specs.Prelude.{◌≡◌, ◌≢◌, ℕ, ◌<◌, [], ◌∷◌, ◌++◌, length, get_or};
+ghost use Rattle.std.specs.Prelude.{◌≡◌, ◌≢◌, ℕ, ◌<◌, Bool, List, [], ◌∷◌, ◌++◌, length, get_or};
 ghost use Rattle.std.specs.Prelude.{IfOk, IfErr, OnOk, MatchResult, string_bytes};
-ghost use Rattle.postcard_value_text.specs.{AreNamed, Group, HasDistinctNames, HaveDistinctNames};
-ghost use Rattle.postcard_value_text.specs.{IsArray, IsGroup, IsOption, IsPlaceIn, IsSeq};
-ghost use Rattle.postcard_value_text.specs.{IsVariant, Named, NamesDiffer, ReadsItems, ReadsTree};
-ghost use Rattle.postcard_value_text.specs.{Schema, SpellsArray, SpellsAt, SpellsChoice};
-ghost use Rattle.postcard_value_text.specs.{SpellsContent, SpellsGroup, SpellsList, SpellsOption};
-ghost use Rattle.postcard_value_text.specs.{SpellsTree, SpellsValue, contents, field_phrases};
-ghost use Rattle.postcard_value_text.specs.{fields_of, layout_of, layouts_of, part_phrases, reads};
-ghost use Rattle.postcard_value_text.specs.{reads_all, reads_at, tree, trees, type_of, types_of};
+ghost use Rattle.postcard_value_text.specs.{AreNamed, EndsWord, Group, HasDistinctNames};
+ghost use Rattle.postcard_value_text.specs.{HaveDistinctNames, InParentheses, IsArray, IsGroup};
+ghost use Rattle.postcard_value_text.specs.{IsOption, IsPlaceIn, IsSeq, IsVariant, IsWord, Named};
+ghost use Rattle.postcard_value_text.specs.{NamesDiffer, ReadsItems, ReadsTree, Schema};
+ghost use Rattle.postcard_value_text.specs.{SpellsArray, SpellsAt, SpellsChoice, SpellsContent};
+ghost use Rattle.postcard_value_text.specs.{SpellsGroup, SpellsList, SpellsOption, SpellsTree};
+ghost use Rattle.postcard_value_text.specs.{SpellsValue, TakesPhrase, contents, field_phrases};
+ghost use Rattle.postcard_value_text.specs.{fields_of, layout_of, layouts_of, option_word};
+ghost use Rattle.postcard_value_text.specs.{part_phrases, reads, reads_all, reads_at, tree, trees};
+ghost use Rattle.postcard_value_text.specs.{type_of, types_of};
 
 use crate::error::{Stop, TextError};
 use crate::expected::Expected;
@@ -133,17 +135,46 @@ fn read_option<'a>(alloc: Global, content: &'a Schema, rest: &mut &[u8]) -> Resu
         (IsOption (reads (type_of content.now)))
         (SpellsOption (SpellsTree (layout_of content.now))) rest.old.now result rest.new.now }
 {
-    skip_blanks(rest);
-    if take_name(rest, b"None".as_slice()) {
+    let some = take_option(rest)?;
+    if !some {
         return Ok(Value::Absent);
     }
-    if !take_name(rest, b"Some".as_slice()) {
-        return Err(Stop::here(rest, Expected::NoneOrSome));
+    let value = read_enclosed(alloc, content, rest)?;
+    Ok(Value::Present(boxed(alloc, value)?))
+}
+
+/// Takes `None` or `Some`, and returns whether it is `Some`.
+fn take_option(rest: &mut &[u8]) -> Result<bool, Stop<'static>>
+    ensures taken { IfOk result (λ some.
+        TakesPhrase (IsWord (option_word some)) rest.old.now rest.new.now) }
+    ensures accepted { (some : Bool) (after : List ℕ)
+        → TakesPhrase (IsWord (option_word some)) rest.old.now after → EndsWord after
+        → MatchResult result (λ read. (read ≡ some) × (rest.new.now ≡ after)) (λ stop. ⊥) }
+{
+    skip_blanks(rest);
+    if take_name(rest, b"None".as_slice()) {
+        return Ok(false);
     }
+    if take_name(rest, b"Some".as_slice()) {
+        return Ok(true);
+    }
+    Err(Stop::here(rest, Expected::NoneOrSome))
+}
+
+/// Reads a value in parentheses.
+#[cycle(text)]
+fn read_enclosed<'a>(
+    alloc: Global,
+    content: &'a Schema,
+    rest: &mut &[u8],
+) -> Result<Value, Stop<'a>>
+    ensures { ReadsTree (HasDistinctNames (layout_of content.now)) (reads (type_of content.now))
+        (InParentheses (SpellsTree (layout_of content.now))) rest.old.now result rest.new.now }
+{
     expect(rest, b'(', Expected::Sign(b'('))?;
     let value = read(alloc, content, rest)?;
     expect(rest, b')', Expected::Sign(b')'))?;
-    Ok(Value::Present(boxed(alloc, value)?))
+    Ok(value)
 }
 
 #[cycle(text)]
@@ -300,8 +331,5 @@ fn read_content<'a>(alloc: Global, content: &'a Schema, rest: &mut &[u8]) -> Res
     if has_brackets(content) {
         return read(alloc, content, rest);
     }
-    expect(rest, b'(', Expected::Sign(b'('))?;
-    let value = read(alloc, content, rest)?;
-    expect(rest, b')', Expected::Sign(b')'))?;
-    Ok(value)
+    read_enclosed(alloc, content, rest)
 }

@@ -60,6 +60,7 @@ fn show<W: Write>(value: &Value, schema: &Schema, f: &mut Formatter<W>) -> fmt::
 
 /// Prints `None` or `Some(..)`.
 #[cycle(show)]
+#[tactic(auto, using(crate::proofs::Joined::displays_failed))]
 fn show_option<W: Write>(value: &Value, content: &Schema, f: &mut Formatter<W>) -> fmt::Result
     ensures { DisplaysOnOk W.write_str_gives f.old result
         (option_text (text (layout_of content.now)) (tree value.now)) f.new }
@@ -143,6 +144,7 @@ fn show_entry<W: Write>(
 /// Prints a tuple. In a tuple of one part, a `,` follows the part. Fails if the numbers of types and
 /// values differ.
 #[cycle(show)]
+#[tactic(auto, using(crate::proofs::Joined::displays_failed))]
 fn show_tuple<W: Write>(
     items: &Vec<Value>,
     parts: &Vec<Schema>,
@@ -174,6 +176,7 @@ fn tuple_end(parts: &Vec<Schema>) -> &'static str
 
 /// Prints a struct. Fails if the numbers of fields and values differ.
 #[cycle(show)]
+#[tactic(auto, using(crate::proofs::Joined::displays_failed))]
 fn show_struct<W: Write>(
     items: &Vec<Value>,
     fields: &Vec<Field>,
@@ -211,6 +214,7 @@ fn show_field<W: Write>(item: &Value, field: &Field, f: &mut Formatter<W>) -> fm
 /// Prints the name of a variant and its content: nothing for the unit, a tuple or a struct, or
 /// another value in parentheses.
 #[cycle(show)]
+#[tactic(auto, using(crate::proofs::Joined::displays_failed))]
 fn show_variant<W: Write>(content: &Value, variant: &Variant, f: &mut Formatter<W>) -> fmt::Result
     ensures { DisplaysOnOk W.write_str_gives f.old result
         (variant_text (string_bytes variant.now.name) (layout_of variant.now.content)

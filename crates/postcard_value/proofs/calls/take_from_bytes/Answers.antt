@@ -2,11 +2,9 @@
 use Rattle.std.proofs.Common.{◌≡◌, ◌≤◌, ℕ, List, ◌++◌, length}
 use Rattle.std.proofs.Common.{sym, ◌∙◌, ap, arith, length-append}
 use Rattle.std.proofs.lemmas.List.{append_cancel_left}
-use Rattle.postcard_wire.specs.Spelling.{canonical}
 use Rattle.postcard_wire.proofs.Shortest.{Spells-canonical}
 use Rattle.postcard_de_nodes.specs.ReadLemmas.{is_refusal}
-use Rattle.postcard_schema.specs.Meaning.{type_of}
-use Rattle.postcard_value.specs.Tree.{tree}
+use Rattle.postcard_value.specs.{canonical, tree, type_of}
 use Rattle.postcard_value.specs.TypeLaws.{type_well_formed}
 use Rattle.postcard_value.proofs.calls.take_from_bytes.Goals as goal
 

@@ -11,9 +11,6 @@ loop-i-init c = ([], (NoTrees, (refl, tt), refl), refl, refl)
 pub loop-i-preserved : goal.loop-i-preserved
 loop-i-preserved c =
     let so = c.loop-i.invariant in
-    let r = c.in-Ok.ensures.gives in (
-      so.0 ++ r.front,
-      each_more (type_of c.args.element.now) c.loop-i.i r.tree so.0 r.front so.1 r.is_read r.is_spelled,
-      so.2 ∙ ap (λ q. so.0 ++ q) r.joins ∙ sym (append_assoc so.0 r.front c.in-Ok.after.now),
-      so.3,
-    )
+    let r = c.in-Ok.ensures.gives in
+    let joins = so.2 ∙ ap (λ q. so.0 ++ q) r.joins ∙ sym (append_assoc so.0 r.front c.in-Ok.after.now) in
+    (so.0 ++ r.front, each_more (type_of c.args.element.now) c.loop-i.i r.tree so.0 r.front so.1 r.is_read r.is_spelled, joins, so.3)

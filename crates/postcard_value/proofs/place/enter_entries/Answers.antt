@@ -16,10 +16,8 @@ loop-i-preserved c =
     let r = c.in-Ok.ensures.gives in
     let q = c.in-Ok-take_from_bytes.ensures.gives in
     let after = c.in-Ok-take_from_bytes.after.now in
-    let e = entry_spelled k v r.front q.front (r.tree, r.is_read, r.is_spelled) (q.tree, q.is_read, q.is_spelled) in (
-      so.0 ++ (r.front ++ q.front),
-      each_more (entry_of k v) c.loop-i.i e.0 so.0 (r.front ++ q.front) so.1 e.1 e.2,
-      so.2 ∙ ap (λ x. so.0 ++ x) (r.joins ∙ ap (λ x. r.front ++ x) q.joins ∙ sym (append_assoc r.front q.front after)) ∙ sym (append_assoc so.0
-          (r.front ++ q.front) after),
-      so.3,
-    )
+    let own = r.front ++ q.front in
+    let e = entry_spelled k v r.front q.front (r.tree, r.is_read, r.is_spelled) (q.tree, q.is_read, q.is_spelled) in
+    let entry_joins = r.joins ∙ ap (λ x. r.front ++ x) q.joins ∙ sym (append_assoc r.front q.front after) in
+    let joins = so.2 ∙ ap (λ x. so.0 ++ x) entry_joins ∙ sym (append_assoc so.0 own after) in
+    (so.0 ++ own, each_more (entry_of k v) c.loop-i.i e.0 so.0 own so.1 e.1 e.2, joins, so.3)

@@ -1,8 +1,9 @@
 -- The first byte is 1, and reading stops in the content. Or the first byte itself can't be read.
 use Rattle.std.proofs.Common.{◌≡◌, [], ◌∷◌, length, refl, sym, ap, ◌∙◌, arith, append-nil}
 use Rattle.std.proofs.lemmas.Grind.{common_steps}
+use Rattle.postcard_schema.specs.Lemmas.{type_of_option}
 use Rattle.postcard_value.specs.Refused.{at_flag, in_option}
-use Rattle.postcard_value.proofs.FrontLemmas.{option_none, option_depth}
+use Rattle.postcard_value.proofs.FrontLemmas.{option_none}
 use Rattle.postcard_value.proofs.place.enter_option.Goals as goal
 
 pub returns-in_default : goal.returns-in_default
@@ -19,4 +20,7 @@ returns-then-first-ne1 c = λ s held steps is inner.
 pub returns : goal.returns
 returns c = λ s held steps is inner.
     let cut : c.args.bytes.now ≡ 1 ∷ c.in-Some.rest.now = c.in-Some.ensures.cases.0 ∙ ap (λ b. b ∷ c.in-Some.rest.now) (omega arith) in
-    rw (← inner) ((1 ∷ [], [], in_option s held is, sym (append-nil steps), cut, option_none s held c.args.bytes.now c.in-Some.rest.now is cut), option_depth s held is)
+    rw (← inner) (
+      (1 ∷ [], [], in_option s held is, sym (append-nil steps), cut, option_none s held c.args.bytes.now c.in-Some.rest.now is cut),
+      rw (is, type_of_option held) (omega arith),
+    )

@@ -34,14 +34,9 @@ returns-in_ok-push-in-Some-clause-found c = λ s is.
     let n = number_read 32 r.tree i r.front r.is_read r.has r.is_spelled in
     let inside : i < length c.deref.result.now = grind (arith, common_steps) in
     let low : i < length xs = rw c.deref.ensures.value at inside in
-    let found : x ≡ get_or xs i x = rw c.deref.ensures.value at c.in-Some.ensures.lookup.1 in (
-      (
-        r.front,
-        Name c.deref-in-Some.result ∷ [],
-        in_variant s c.args.variants.now i x c.deref-in-Some.result r.front is low found c.deref-in-Some.ensures n.0 n.1,
-        c.in_ok-push-in-Some.ensures.items,
-        r.joins,
-        variant_none s c.args.variants.now c.args.bytes.now r.front c.in-Ok.rest.now i x is low found r.joins n.0 n.1,
-      ),
-      variant_depth s c.args.variants.now i x is low found,
-    )
+    let found : x ≡ get_or xs i x = rw c.deref.ensures.value at c.in-Some.ensures.lookup.1 in
+    let name = c.deref-in-Some.result in
+    let entered = in_variant s c.args.variants.now i x name r.front is low found c.deref-in-Some.ensures n.0 n.1 in
+    let lack = variant_none s c.args.variants.now c.args.bytes.now r.front c.in-Ok.rest.now i x is low found r.joins n.0 n.1 in
+    let less = variant_depth s c.args.variants.now i x is low found in
+    ((r.front, Name name ∷ [], entered, c.in_ok-push-in-Some.ensures.items, r.joins, lack), less)

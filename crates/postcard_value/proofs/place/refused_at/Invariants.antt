@@ -1,9 +1,7 @@
 -- The current part is a part of the value, and reading the value stops where reading this part stops.
 use Rattle.std.proofs.Common.{◌≡◌, ◌+◌, ◌++◌, List, ℕ, length}
-use Rattle.postcard_schema.specs.declared.path.Step.{Step}
 use Rattle.postcard_schema.specs.Bounds.{depth}
-use Rattle.postcard_schema.specs.Meaning.{type_of}
-use Rattle.postcard_value.specs.Fronts.{HasNoFront}
+use Rattle.postcard_value.specs.{HasNoFront, Step, type_of}
 use Rattle.postcard_value.specs.Refused.{StopsAt}
 use Rattle.postcard_value.proofs.place.refused_at.Given as goal
 

@@ -3,7 +3,6 @@
 use Rattle.std.proofs.Common.{◌≡◌, suc, ◌+◌, ◌-◌, ◌<◌, List, map, length, drop, refl, sym, ap, ◌∙◌, arith, rules}
 use Rattle.std.proofs.lemmas.Grind.{common_steps}
 use Rattle.std.proofs.lemmas.List.{drop_all}
-use Rattle.postcard_wire.specs.Tree.{trees}
 use Rattle.postcard_wire.specs.Tree as nodes
 use Rattle.postcard_de_nodes.specs.CountLemmas.{list_read, list_refused, count_refused}
 use Rattle.postcard_de_nodes.specs.ReadLemmas.{is_refusal, out_of_memory}
@@ -14,7 +13,7 @@ use Rattle.postcard_de.proofs.Options.{some_read, some_refused}
 use Rattle.postcard_de.proofs.Parts.{part_and_rest}
 use Rattle.postcard_schema.specs.Meaning.{contents, entry_of, type_of, types_of, no_types, reads, reads_at}
 use Rattle.postcard_schema.specs.Lemmas.{content_at, no_content_at, type_of_enum, type_of_map, type_of_struct}
-use Rattle.postcard_value.specs.Tree.{tree, IsTree}
+use Rattle.postcard_value.specs.{IsTree, tree, trees}
 use Rattle.postcard_value.specs.declared.value.Value.{Value, Present, Seq, Group, Variant, the_lemmas}
 use Rattle.postcard_value.proofs.Nodes.{as_count, no_count, as_list, no_list, no_memory, no_option, one_taken}
 use Rattle.postcard_value.proofs.Rows.{list_tree, part_next, field_next, elements_over, row_begins, row_goes_on, row_stops, row_ends, group_read, group_refused, key_stops, value_stops, entry_read}

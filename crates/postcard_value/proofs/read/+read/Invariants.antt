@@ -1,8 +1,7 @@
 -- What each loop has read so far, and how the result of reading the remaining parts gives the result of reading all.
 use Rattle.std.proofs.Common.{◌-◌, drop}
-use Rattle.postcard_shape.specs.Lists.{AreRead}
 use Rattle.postcard_de.specs.Deserializer.{source_of}
-use Rattle.postcard_schema.specs.Meaning.{contents, entry_of, type_of, types_of, reads, reads_all}
+use Rattle.postcard_value.specs.{AreRead, contents, entry_of, reads, reads_all, type_of, types_of}
 use Rattle.postcard_value.proofs.Rows.{GoingRow}
 use Rattle.postcard_value.proofs.read.+read.Given as goal
 

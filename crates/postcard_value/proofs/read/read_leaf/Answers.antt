@@ -2,10 +2,7 @@
 use Rattle.std.proofs.Common.{◌≡◌, map, sym, ◌∙◌, rules}
 use Rattle.postcard_wire.specs.Tree.{Byte, Seq, trees}
 use Rattle.postcard_de_nodes.specs.SeenLemmas.{recast, seen_as}
-use Rattle.postcard_schema.specs.declared.leaf.ByteOrder.TheVariants.{Little}
-use Rattle.postcard_schema.specs.Leaves.{float_size, size_of}
-use Rattle.postcard_value.specs.Numbers.{fixed_tree}
-use Rattle.postcard_value.specs.Tree.{tree}
+use Rattle.postcard_value.specs.{Little, fixed_tree, float_size, size_of, tree}
 use Rattle.postcard_value.specs.declared.value.Value.{Float, Bytes, Fixed, the_lemmas}
 use Rattle.postcard_value.proofs.Nodes.{fixed_are}
 use Rattle.postcard_value.proofs.Rows.{list_tree}

@@ -3,13 +3,10 @@ use Rattle.std.proofs.Common.{◌≡◌, ◌<◌, length, Err, Ok, [], ◌∷◌
 use Rattle.std.specs.Prelude.{map}
 use Rattle.std.proofs.lemmas.Grind.{common_steps}
 use Rattle.postcard_wire.specs.Number.{digits}
-use Rattle.postcard_wire.specs.Tree.{trees}
 use Rattle.postcard_wire.specs.Tree as nodes
-use Rattle.postcard_wire.specs.Spelling.{canonical}
-use Rattle.postcard_ser.specs.Writing.{Wrote, never}
 use Rattle.postcard_ser.proofs.Elements.{elements_more, elements_cut, elements_count}
 use Rattle.postcard_ser.proofs.PartByPart.{wrote_then, wrote_stop, wrote_err, wrote_ok}
-use Rattle.postcard_value.specs.Tree.{tree}
+use Rattle.postcard_value.specs.{Wrote, canonical, never, tree, trees}
 use Rattle.postcard_value.specs.declared.value.Value.{Present, Seq, Variant, the_lemmas}
 use Rattle.postcard_value.proofs.write.+write.Goals as goal
 

@@ -1,10 +1,7 @@
 -- The values before the loop's place are written.
 use Rattle.std.proofs.Common.{Ok, take}
 use Rattle.std.specs.Prelude.{map}
-use Rattle.postcard_wire.specs.Spelling.{canonical_all}
-use Rattle.postcard_wire.specs.Tree.{trees}
-use Rattle.postcard_ser.specs.Writing.{Wrote, never}
-use Rattle.postcard_value.specs.Tree.{tree}
+use Rattle.postcard_value.specs.{Wrote, canonical_all, never, tree, trees}
 use Rattle.postcard_value.proofs.write.+write.Given as goal
 
 abbrev pub invariant-write_all-loop-item : goal.invariant-write_all-loop-item

@@ -1,5 +1,5 @@
 -- A word that isn't parsed as a float denotes none.
-use Rattle.postcard_value_text.proofs.FloatFronts.{float_all, number_utf8}
+use Rattle.postcard_value_text.proofs.FloatTexts.{float_all, number_utf8}
 use Rattle.postcard_value_text.specs.Floats.{format_of}
 use Rattle.postcard_value_text.proofs.float.nearest.Goals as goal
 

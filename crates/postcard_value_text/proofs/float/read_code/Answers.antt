@@ -5,8 +5,8 @@ use Rattle.std.proofs.lemmas.Bool.Decides.{Decides-eqb}
 use Rattle.std.proofs.lemmas.Slice.Eq.{strip_prefix_is}
 use Rattle.std.specs.Str.Parse.{digits_value, without_leading_plus}
 use Rattle.postcard_schema_text.specs.FrontLemmas.{same_rest, word_utf8}
-use Rattle.postcard_value_text.proofs.FloatTexts.{code_taken, unsigned_word}
-use Rattle.postcard_value_text.proofs.FloatFronts.{code_found, one_rest}
+use Rattle.postcard_value_text.proofs.FloatTexts.{code_taken, unsigned_word, code_found}
+use Rattle.postcard_value_text.proofs.Fronts.{one_rest}
 use Rattle.postcard_value_text.proofs.float.read_code.Goals as goal
 
 pub returns-in_default-clause-reads_back : goal.returns-in_default-clause-reads_back

@@ -2,10 +2,8 @@
 use Rattle.std.proofs.Common.{◌≡◌, ℕ, List, codes, sym, ap, refl, subst, ◌∙◌, true≢false}
 use Rattle.std.proofs.lemmas.Bool.Decides.{Decides-eqb}
 use Rattle.std.proofs.lemmas.Slice.Eq.{slice_eq-Decides}
-use Rattle.postcard_schema_text.specs.Text.{TakesPhrase, IsSign}
-use Rattle.postcard_value_text.specs.Floats.{AreNan, format_of}
-use Rattle.postcard_value_text.proofs.FloatTexts.{float_taken, nan_taken}
-use Rattle.postcard_value_text.proofs.FloatFronts.{parsed, parsed_code, parsed_number, one_float, at_most_64}
+use Rattle.postcard_value_text.specs.{AreNan, IsSign, TakesPhrase, format_of}
+use Rattle.postcard_value_text.proofs.FloatTexts.{float_taken, nan_taken, parsed, parsed_code, parsed_number, one_float, at_most_64}
 use Rattle.postcard_value_text.proofs.float.read_float.Goals.{else-eq-via-then-eq+else-take, else-eq-via-else-eq}
 use Rattle.postcard_value_text.proofs.float.read_float.Goals as goal
 

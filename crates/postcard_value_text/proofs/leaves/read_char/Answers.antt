@@ -2,8 +2,7 @@
 use Rattle.std.proofs.Common.{refl, sym, subst, ◌∙◌, arith}
 use Rattle.std.specs.Char.{encode_utf8}
 use Rattle.std.proofs.lemmas.Str.{IsUtf8-encode}
-use Rattle.postcard_schema_text.specs.Text.{TakesPhrase}
-use Rattle.postcard_value_text.specs.Quoted.{IsQuoted}
+use Rattle.postcard_value_text.specs.{IsQuoted, TakesPhrase}
 use Rattle.postcard_value_text.proofs.Readers.{memory_passed}
 use Rattle.postcard_value_text.proofs.LeafFronts.{one_character}
 use Rattle.postcard_value_text.proofs.leaves.read_char.Goals as goal

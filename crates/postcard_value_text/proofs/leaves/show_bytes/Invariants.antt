@@ -1,8 +1,7 @@
 -- The digits of the bytes so far are written.
 use Rattle.std.proofs.Common.{map, take, Ok}
 use Rattle.std.specs.Fmt.{WritesOnOk}
-use Rattle.postcard_wire.specs.Tree.{Byte, trees}
-use Rattle.postcard_value_text.specs.Shown.{hexadecimal}
+use Rattle.postcard_value_text.specs.{Byte, hexadecimal, trees}
 use Rattle.postcard_value_text.proofs.leaves.show_bytes.Given as goal
 
 abbrev pub invariant-loop-byte : goal.invariant-loop-byte

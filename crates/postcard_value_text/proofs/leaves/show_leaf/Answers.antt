@@ -4,11 +4,10 @@ use Rattle.std.proofs.Output.{displays_on_ok_of_eq}
 use denote.Enum.Bare.{differs_false}
 use Rattle.postcard_schema.specs.contracts.leaf.ByteOrder.{the_type as order_type}
 use Rattle.postcard_schema.specs.contracts.leaf.Integer.{the_type as integer_type}
-use Rattle.postcard_schema.specs.Leaves.{size_of}
 use Rattle.postcard_value.specs.Numbers.{fixed_tree}
-use Rattle.postcard_value.specs.Tree.{tree}
 use Rattle.postcard_value.specs.declared.value.Value.{the_lemmas}
 use Rattle.postcard_value.specs.declared.value.Value.TheVariants as values
+use Rattle.postcard_value_text.specs.{size_of, tree}
 use Rattle.postcard_value_text.proofs.LeafTrees.{fixed_shown}
 use Rattle.postcard_value_text.proofs.leaves.show_leaf.Goals as goal
 

@@ -3,15 +3,9 @@ use Rattle.std.proofs.Common.{◌≡◌, true, Some, [], ◌∷◌, sym, ◌∙�
 use Rattle.std.specs.List.{list_all}
 use Rattle.std.proofs.Output.{displays_on_ok_of_eq}
 use Rattle.postcard_value_text.specs.Shown.{stands_for_itself}
-use Rattle.postcard_value_text.proofs.Joined.{displays_failed, encloses}
+use Rattle.postcard_value_text.proofs.Joined.{encloses}
 use Rattle.postcard_value_text.proofs.PlainTexts.{plain_text}
 use Rattle.postcard_value_text.proofs.leaves.show_text.Goals as goal
-
-pub returns-in_err-write_str : goal.returns-in_err-write_str
-returns-in_err-write_str g c = displays_failed g.W.Write.write_str_gives _ _ _ _ c.from_residual.ensures.0
-
-pub returns-in_err-write_str-2 : goal.returns-in_err-write_str-2
-returns-in_err-write_str-2 g c = displays_failed g.W.Write.write_str_gives _ _ _ _ c.from_residual-in_err-write_str-2.ensures.0
 
 pub returns : goal.returns
 returns g c =

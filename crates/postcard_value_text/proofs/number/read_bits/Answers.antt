@@ -1,6 +1,5 @@
 -- The next word denotes the number if and only if the text begins with a number of the type.
-use Rattle.postcard_schema.specs.Leaves.{is_signed}
-use Rattle.postcard_value_text.specs.Numbers.{HasBits}
+use Rattle.postcard_value_text.specs.{HasBits, is_signed}
 use Rattle.postcard_value_text.proofs.Fronts.{scalar_led, scalar_taken, bits_scalars}
 use Rattle.postcard_value_text.proofs.Numbers.{one_bits}
 use Rattle.postcard_value_text.proofs.number.read_bits.Goals as goal

@@ -1,9 +1,8 @@
 -- A number has bits of the type if and only if it is below the power of 2 of the width.
 use Rattle.std.proofs.Common.{◌<◌, ◌^◌, subst, sym, arith}
-use Rattle.postcard_schema.specs.Leaves.{size_of}
 use Rattle.postcard_value.specs.NumberLemmas.{at_most_128}
-use Rattle.postcard_schema_text.specs.Literals.{IsLiteral}
 use Rattle.postcard_schema_text.specs.LiteralLemmas.{one_literal}
+use Rattle.postcard_value_text.specs.{IsLiteral, size_of}
 use Rattle.postcard_value_text.proofs.number.unsigned_bits.Goals as goal
 
 pub returns-then-are_bits-clause-found : goal.returns-then-are_bits-clause-found

@@ -2,8 +2,7 @@
 use Rattle.std.proofs.Common.{◌∷◌, ◌≤◌, [], refl, sym, ap, subst, ◌∙◌, arith, inl}
 use Rattle.std.specs.Char.{IsScalar}
 use Rattle.std.proofs.lemmas.Result.{IfOk-weaker, IfErr-weaker, MatchResult-from_both, err_from_is_err_and}
-use Rattle.postcard_schema_text.specs.Text.{TakesPhrase}
-use Rattle.postcard_value_text.specs.Quoted.{IsCode}
+use Rattle.postcard_value_text.specs.{IsCode, TakesPhrase}
 use Rattle.postcard_value_text.proofs.Quotes.{digit_more, code_small, code_takes}
 use Rattle.postcard_value_text.proofs.QuotedFronts.{code_begins, code_not_ended, code_left_not_ended, code_closes, code_digit}
 use Rattle.postcard_value_text.proofs.quoted.take_code.Goals as goal

@@ -1,7 +1,6 @@
 -- The code so far is the number of the digits so far, and the digits after them are left.
 use Rattle.std.proofs.Common.{ℕ, List}
-use Rattle.postcard_schema_text.specs.Text.{TakesPhrase}
-use Rattle.postcard_value_text.specs.Quoted.{IsCode}
+use Rattle.postcard_value_text.specs.{IsCode, TakesPhrase}
 use Rattle.postcard_value_text.proofs.QuotedFronts.{CodeLeft}
 use Rattle.postcard_value_text.proofs.Quotes.{HasDigits}
 use Rattle.postcard_value_text.proofs.quoted.take_code.Given as goal

@@ -1,10 +1,10 @@
 -- A letter is a short escape, or `u` and a code. Where the call stops, no escape begins the text.
 use Rattle.std.proofs.Common.{◌∷◌, [], ◌++◌, sym, ap, subst, ◌∙◌}
 use Rattle.std.specs.Char.{encode_utf8}
-use Rattle.postcard_schema_text.specs.Text.{TakesPhrase}
-use Rattle.postcard_value_text.specs.Quoted.{IsEscape}
+use Rattle.postcard_value_text.specs.{IsEscape, TakesPhrase}
 use Rattle.postcard_value_text.proofs.Readers.{reads_as}
-use Rattle.postcard_value_text.proofs.Quotes.{short_takes, code_escape, on_ok_as}
+use Rattle.std.proofs.lemmas.Result.{on_ok_weaker}
+use Rattle.postcard_value_text.proofs.Quotes.{short_takes, code_escape}
 use Rattle.postcard_value_text.proofs.QuotedFronts.{code_of, letter_of, one_byte, escape_not_ended}
 use Rattle.postcard_value_text.proofs.quoted.take_escape.Goals as goal
 
@@ -21,7 +21,7 @@ returns-in_err-c-clause-accepted c = λ held after h.
 pub returns-then-letter-eq117-clause-taken : goal.returns-then-letter-eq117-clause-taken
 returns-then-letter-eq117-clause-taken c =
     let next = c.in_ok-letter.ensures.taken ∙ ap (λ b. b ∷ c.take_byte.new.rest.now) c.if-letter-eq117.true in
-    on_ok_as c.push_character.result (λ added.
+    on_ok_weaker c.push_character.result (λ added.
     code_escape c.in_ok-c.c c.args.bytes.now.items c.push_character.new.bytes.items c.args.rest.now.now c.take_byte.new.rest.now c.take_code.new.rest.now added next c.in_ok-c.ensures.code)
     c.push_character.ensures.added
 
@@ -35,7 +35,7 @@ returns-then-letter-eq117-clause-accepted c = λ held after h.
 
 pub returns-in-Some-clause-taken : goal.returns-in-Some-clause-taken
 returns-in-Some-clause-taken c =
-    on_ok_as c.push.result (λ added.
+    on_ok_weaker c.push.result (λ added.
     short_takes c.in_ok-letter.letter c.in-Some.byte c.args.bytes.now.items c.push.new.bytes.items c.args.rest.now.now c.take_byte.new.rest.now c.in-Some.ensures.found added c.in_ok-letter.ensures.taken)
     c.push.ensures.added
 

@@ -1,8 +1,7 @@
 -- The bytes so far are those of the pieces so far, and the pieces after them are left.
 use Rattle.std.proofs.Common.{◌≡◌, ◌≢◌, ℕ, ◌+◌, ◌≤◌, false, List, length}
 use Rattle.std.specs.Char.{is_ascii_whitespace}
-use Rattle.postcard_schema_text.specs.Text.{TakesPhrase}
-use Rattle.postcard_value_text.specs.Quoted.{IsQuoted}
+use Rattle.postcard_value_text.specs.{IsQuoted, TakesPhrase}
 use Rattle.postcard_value_text.proofs.QuotedFronts.{PiecesLeft}
 use Rattle.postcard_value_text.proofs.Quotes.{HasPieces}
 use Rattle.postcard_value_text.proofs.quoted.take_quoted.Given as goal

@@ -9,14 +9,11 @@ use Rattle.std.specs.Prelude.{is_some}
 use Rattle.postcard_wire.specs.Tree.{NoTrees, trees}
 use Rattle.postcard_wire.specs.Tree as nodes
 use Rattle.postcard_schema.specs.Lemmas.{type_of_leaf, type_of_option, type_of_seq, type_of_map, type_of_array, type_of_tuple, type_of_struct, type_of_enum}
-use Rattle.postcard_schema.specs.Meaning.{reads, type_of}
 use Rattle.postcard_schema_text.specs.FrontLemmas.{word_taken}
 use Rattle.postcard_schema_text.proofs.Refusals.{is_empty, takes_le, takes_less}
-use Rattle.postcard_value.specs.Tree.{tree}
 use Rattle.postcard_value.specs.declared.value.Value.{Absent, Present, Seq, Group, Variant, the_lemmas}
-use Rattle.postcard_value_text.specs.Accepted.{AreNamed, HasDistinctNames, HaveDistinctNames, ReadsTree}
-use Rattle.postcard_value_text.specs.Layout.{fields_of, layout_of, layouts_of}
-use Rattle.postcard_value_text.specs.Spelled.{SpellsTree}
+use Rattle.postcard_value_text.specs.{AreNamed, HasDistinctNames, HaveDistinctNames, ReadsTree, SpellsTree, fields_of, layout_of, layouts_of, reads}
+use Rattle.postcard_value_text.specs.{tree, type_of}
 use Rattle.postcard_value_text.proofs.Choices.{inner_read, inner_refused, inner_unclosed, unopened, none_read, some_read, option_missed, unit_read, brackets_read, parentheses_read, FirstCalled, variant_missed, variant_refused, variant_read}
 use Rattle.postcard_value_text.proofs.Groups.{entry_names, entry_reads, entry_spells, distinct_at, named_at, field_reads, field_spells, part_reads, part_spells, part_sets, same_parts, field_sets, same_fields, field_read, label_missed, key_refused, arrow_missed, value_refused, entry_read, group_unopened, group_refused, group_unclosed, group_read}
 use Rattle.postcard_value_text.proofs.Items.{row, opens, items_none, items_cut, item_refused, item_comma, item_last, item_unclosed, list_read, list_refused, list_unopened, array_read, array_refused, array_unopened, array_uncounted}
@@ -126,63 +123,53 @@ read_array-returns t c =
 
 -- ---- options
 
-pub read_option-returns-then-take_name : goal.read_option-returns-then-take_name
-read_option-returns-then-take_name t c =
+pub read_option-returns-in_err-some : goal.read_option-returns-in_err-some
+read_option-returns-in_err-some t c =
+    passed_on _ c.from_residual.ensures.1 (option_missed (SpellsTree (layout_of c.args.content.now)) _
+    (λ some x h ends. c.in_err-some.ensures.accepted some x h ends))
+
+pub read_option-returns-then-not-some : goal.read_option-returns-then-not-some
+read_option-returns-then-not-some t c =
     let seen : tree Absent ≡ nodes.Absent = search (rules, the_lemmas) in
-    none_read (SpellsTree (layout_of c.args.content.now)) c.skip_blanks.ensures Absent seen (rw c.as_slice.ensures at (c.take_name.ensures.taken c.if-take_name.true))
-    (λ b h ends. c.take_name.ensures.one c.if-take_name.true (rw c.as_slice.ensures (omega arith)) b (rw c.as_slice.ensures h) ends)
-
-pub read_option-returns-then-not-take_name : goal.read_option-returns-then-not-take_name
-read_option-returns-then-not-take_name t c =
-    let left = c.take_name.ensures.left c.if-take_name.false in
-    option_missed (SpellsTree (layout_of c.args.content.now)) c.skip_blanks.ensures
-    (λ b h ends. c.take_name.ensures.none c.if-take_name.false (rw c.as_slice.ensures (omega arith)) b (rw c.as_slice.ensures h) ends) _
-    (λ b h ends. c.take_name-2.ensures.none c.if-not-take_name.true (rw c.as_slice-2.ensures (omega arith)) b (rw (c.as_slice-2.ensures, left) h) ends)
-
-pub read_option-returns-in_err-expect : goal.read_option-returns-in_err-expect
-read_option-returns-in_err-expect t c =
-    let S = SpellsTree (layout_of c.args.content.now) in
-    let left = c.take_name.ensures.left c.if-take_name.false in
-    passed_on _ c.from_residual.ensures.1 (some_read S c.skip_blanks.ensures
-    (λ b h ends. c.take_name.ensures.none c.if-take_name.false (rw c.as_slice.ensures (omega arith)) b (rw c.as_slice.ensures h) ends)
-    (rw (c.as_slice-2.ensures, left) at (c.take_name-2.ensures.taken c.if-not-take_name.false))
-    (λ b h ends. c.take_name-2.ensures.one c.if-not-take_name.false (rw c.as_slice-2.ensures (omega arith)) b (rw (c.as_slice-2.ensures, left) h) ends)
-    (Err _) (unopened S _ (λ b h. c.in_err-expect.ensures.accepted b refl h)))
+    none_read (SpellsTree (layout_of c.args.content.now)) Absent seen (rw c.if-not-some.true at c.in_ok-some.ensures.taken)
+    (λ other x h ends. rw c.if-not-some.true at (c.in_ok-some.ensures.accepted other x h ends))
 
 pub read_option-returns-in_err-value : goal.read_option-returns-in_err-value
 read_option-returns-in_err-value t c =
-    let S = SpellsTree (layout_of c.args.content.now) in
-    let left = c.take_name.ensures.left c.if-take_name.false in
-    passed_on _ c.from_residual-in_err-value.ensures.1 (some_read S c.skip_blanks.ensures
-    (λ b h ends. c.take_name.ensures.none c.if-take_name.false (rw c.as_slice.ensures (omega arith)) b (rw c.as_slice.ensures h) ends)
-    (rw (c.as_slice-2.ensures, left) at (c.take_name-2.ensures.taken c.if-not-take_name.false))
-    (λ b h ends. c.take_name-2.ensures.one c.if-not-take_name.false (rw c.as_slice-2.ensures (omega arith)) b (rw (c.as_slice-2.ensures, left) h) ends)
-    (Err _) (inner_refused S c.in_ok-expect.ensures.taken c.in_err-value.ensures))
-
-pub read_option-returns-in_err-expect-2 : goal.read_option-returns-in_err-expect-2
-read_option-returns-in_err-expect-2 t c =
-    let S = SpellsTree (layout_of c.args.content.now) in
-    let left = c.take_name.ensures.left c.if-take_name.false in
-    passed_on _ c.from_residual-in_err-expect-2.ensures.1 (some_read S c.skip_blanks.ensures
-    (λ b h ends. c.take_name.ensures.none c.if-take_name.false (rw c.as_slice.ensures (omega arith)) b (rw c.as_slice.ensures h) ends)
-    (rw (c.as_slice-2.ensures, left) at (c.take_name-2.ensures.taken c.if-not-take_name.false))
-    (λ b h ends. c.take_name-2.ensures.one c.if-not-take_name.false (rw c.as_slice-2.ensures (omega arith)) b (rw (c.as_slice-2.ensures, left) h) ends)
-    (Err _) (inner_unclosed S c.in_ok-expect.ensures.taken _ c.in_ok-value.ensures (λ b h. c.in_err-expect-2.ensures.accepted b refl h)))
+    passed_on _ c.from_residual-in_err-value.ensures.1 (some_read (SpellsTree (layout_of c.args.content.now)) (Err _)
+    (rw c.if-not-some.false at c.in_ok-some.ensures.taken) (λ other x h ends. rw c.if-not-some.false at (c.in_ok-some.ensures.accepted other x h ends))
+    c.in_err-value.ensures)
 
 pub read_option-returns-in_err-boxed : goal.read_option-returns-in_err-boxed
 read_option-returns-in_err-boxed t c = no_memory _ _ c.from_residual-in_err-boxed.ensures.1 c.in_err-boxed.ensures.only_out_of_memory
 
 pub read_option-returns : goal.read_option-returns
 read_option-returns t c =
-    let S = SpellsTree (layout_of c.args.content.now) in
-    let left = c.take_name.ensures.left c.if-take_name.false in
     let held = c.in_ok-boxed.field-0 in
     let seen : tree (Present held) ≡ nodes.Present (tree c.in_ok-value.value) = rw (← c.in_ok-boxed.ensures.held) (search (rules, the_lemmas)) in
-    held_as (sym seen) (some_read S c.skip_blanks.ensures
-    (λ b h ends. c.take_name.ensures.none c.if-take_name.false (rw c.as_slice.ensures (omega arith)) b (rw c.as_slice.ensures h) ends)
-    (rw (c.as_slice-2.ensures, left) at (c.take_name-2.ensures.taken c.if-not-take_name.false))
-    (λ b h ends. c.take_name-2.ensures.one c.if-not-take_name.false (rw c.as_slice-2.ensures (omega arith)) b (rw (c.as_slice-2.ensures, left) h) ends)
-    (Ok c.in_ok-value.value) (inner_read S c.in_ok-expect.ensures.taken c.in_ok-value.ensures c.in_ok-expect-2.ensures.taken))
+    held_as (sym seen) (some_read (SpellsTree (layout_of c.args.content.now)) (Ok c.in_ok-value.value)
+    (rw c.if-not-some.false at c.in_ok-some.ensures.taken) (λ other x h ends. rw c.if-not-some.false at (c.in_ok-some.ensures.accepted other x h ends))
+    c.in_ok-value.ensures)
+
+-- ---- values in parentheses
+
+pub read_enclosed-returns-in_err-expect : goal.read_enclosed-returns-in_err-expect
+read_enclosed-returns-in_err-expect t c =
+    passed_on _ c.from_residual.ensures.1 (unopened (SpellsTree (layout_of c.args.content.now)) _ (λ b h. c.in_err-expect.ensures.accepted b refl h))
+
+pub read_enclosed-returns-in_err-value : goal.read_enclosed-returns-in_err-value
+read_enclosed-returns-in_err-value t c =
+    passed_on _ c.from_residual-in_err-value.ensures.1
+    (inner_refused (SpellsTree (layout_of c.args.content.now)) c.in_ok-expect.ensures.taken c.in_err-value.ensures)
+
+pub read_enclosed-returns-in_err-expect-2 : goal.read_enclosed-returns-in_err-expect-2
+read_enclosed-returns-in_err-expect-2 t c =
+    passed_on _ c.from_residual-in_err-expect-2.ensures.1 (inner_unclosed (SpellsTree (layout_of c.args.content.now)) c.in_ok-expect.ensures.taken _
+    c.in_ok-value.ensures (λ b h. c.in_err-expect-2.ensures.accepted b refl h))
+
+pub read_enclosed-returns : goal.read_enclosed-returns
+read_enclosed-returns t c =
+    inner_read (SpellsTree (layout_of c.args.content.now)) c.in_ok-expect.ensures.taken c.in_ok-value.ensures c.in_ok-expect-2.ensures.taken
 
 -- ---- tuples
 
@@ -371,29 +358,10 @@ read_content-returns-then-has_brackets t c =
     brackets_read (layout_of c.args.content.now) (SpellsTree (layout_of c.args.content.now)) c.read.result (sym c.is_unit.ensures.empty ∙ c.if-is_unit.false)
     (sym c.has_brackets.ensures ∙ c.if-has_brackets.true) c.read.ensures
 
-pub read_content-returns-in_err-expect : goal.read_content-returns-in_err-expect
-read_content-returns-in_err-expect t c =
-    let x = layout_of c.args.content.now in
-    passed_on _ c.from_residual.ensures.1 (parentheses_read x (SpellsTree x) (Err _) (sym c.has_brackets.ensures ∙ c.if-has_brackets.false)
-    (unopened (SpellsTree x) _ (λ b h. c.in_err-expect.ensures.accepted b refl h)))
-
-pub read_content-returns-in_err-value : goal.read_content-returns-in_err-value
-read_content-returns-in_err-value t c =
-    let x = layout_of c.args.content.now in
-    passed_on _ c.from_residual-in_err-value.ensures.1 (parentheses_read x (SpellsTree x) (Err _) (sym c.has_brackets.ensures ∙ c.if-has_brackets.false)
-    (inner_refused (SpellsTree x) c.in_ok-expect.ensures.taken c.in_err-value.ensures))
-
-pub read_content-returns-in_err-expect-2 : goal.read_content-returns-in_err-expect-2
-read_content-returns-in_err-expect-2 t c =
-    let x = layout_of c.args.content.now in
-    passed_on _ c.from_residual-in_err-expect-2.ensures.1 (parentheses_read x (SpellsTree x) (Err _) (sym c.has_brackets.ensures ∙ c.if-has_brackets.false)
-    (inner_unclosed (SpellsTree x) c.in_ok-expect.ensures.taken _ c.in_ok-value.ensures (λ b h. c.in_err-expect-2.ensures.accepted b refl h)))
-
 pub read_content-returns : goal.read_content-returns
 read_content-returns t c =
     let x = layout_of c.args.content.now in
-    parentheses_read x (SpellsTree x) (Ok c.in_ok-value.value) (sym c.has_brackets.ensures ∙ c.if-has_brackets.false)
-    (inner_read (SpellsTree x) c.in_ok-expect.ensures.taken c.in_ok-value.ensures c.in_ok-expect-2.ensures.taken)
+    parentheses_read x (SpellsTree x) c.read_enclosed.result (sym c.has_brackets.ensures ∙ c.if-has_brackets.false) c.read_enclosed.ensures
 
 pub read_variant-returns-in_default : goal.read_variant-returns-in_default
 read_variant-returns-in_default t c =

@@ -1,10 +1,7 @@
 -- Reading the whole ends as reading the remaining text does. If that succeeds, the values read so far come first.
 use Rattle.std.proofs.Common.{◌+◌, ◌≤◌, true, drop, length}
 use Rattle.std.specs.Bool.{◌==◌}
-use Rattle.postcard_schema.specs.Meaning.{reads, type_of}
-use Rattle.postcard_value_text.specs.Accepted.{AreNamed, HasDistinctNames, HaveDistinctNames}
-use Rattle.postcard_value_text.specs.Layout.{fields_of, layout_of, layouts_of}
-use Rattle.postcard_value_text.specs.Spelled.{SpellsTree}
+use Rattle.postcard_value_text.specs.{AreNamed, HasDistinctNames, HaveDistinctNames, SpellsTree, fields_of, layout_of, layouts_of, reads, type_of}
 use Rattle.postcard_value_text.proofs.Groups.{entry_names, entry_reads, entry_spells, field_reads, field_spells, part_reads, part_spells}
 use Rattle.postcard_value_text.proofs.Items.{ReadsRest}
 use Rattle.postcard_value_text.proofs.Parts.{ReadsParts}

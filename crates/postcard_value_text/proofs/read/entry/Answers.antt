@@ -1,9 +1,8 @@
 -- The tree of an entry is the group of the trees of its key and its value.
 use Rattle.std.proofs.Common.{◌≡◌, [], ◌∷◌, ◌++◌, map, ap, ◌∙◌, rules}
-use Rattle.postcard_wire.specs.Tree.{trees}
 use Rattle.postcard_wire.specs.Tree as nodes
-use Rattle.postcard_value.specs.Tree.{tree}
 use Rattle.postcard_value.specs.declared.value.Value.{Group, the_lemmas}
+use Rattle.postcard_value_text.specs.{tree, trees}
 use Rattle.postcard_value_text.proofs.read.entry.Goals as goal
 
 pub returns-clause-both : goal.returns-clause-both

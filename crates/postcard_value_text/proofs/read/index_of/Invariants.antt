@@ -1,7 +1,6 @@
 -- None of the variants before the loop's place has the name.
 use Rattle.std.proofs.Common.{◌≡◌, ◌≢◌, ℕ, ◌<◌, get_or, string_bytes}
-use Rattle.postcard_schema.specs.declared.schema.Named.{Named}
-use Rattle.postcard_schema.specs.declared.schema.Schema.{Schema}
+use Rattle.postcard_value_text.specs.{Named, Schema}
 use Rattle.postcard_value_text.proofs.read.index_of.Given as goal
 
 abbrev pub invariant-loop-i : goal.invariant-loop-i

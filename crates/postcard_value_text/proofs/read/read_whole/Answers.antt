@@ -5,9 +5,7 @@ use Rattle.std.proofs.lemmas.List.{append-nil}
 use Rattle.postcard_schema_text.specs.Text.{unblank, AreBlank}
 use Rattle.postcard_schema_text.specs.FrontLemmas.{trim_is, takes_split, unblank_all}
 use Rattle.postcard_schema_text.specs.Phrases.{takes_two, trim_takes}
-use Rattle.postcard_value.specs.Tree.{tree}
-use Rattle.postcard_value_text.specs.Layout.{layout_of}
-use Rattle.postcard_value_text.specs.Spelled.{SpellsTree}
+use Rattle.postcard_value_text.specs.{SpellsTree, layout_of, tree}
 use Rattle.postcard_value_text.proofs.Readers.{blank_rest, memory_passed}
 use Rattle.postcard_value_text.proofs.read.read_whole.Goals as goal
 

@@ -1,16 +1,14 @@
 -- The mutually recursive printers of values, by the kind of the schema. The text of a whole is that of its parts in order, with the signs
 -- between them.
-use Rattle.std.proofs.Common.{◌≡◌, ◌+◌, ◌<◌, ◌++◌, false, true, [], ◌∷◌, map, take, length, get_or, string_bytes, refl, sym, ap, ◌∙◌, arith, rules, Some, Err}
+use Rattle.std.proofs.Common.{◌≡◌, ◌+◌, ◌<◌, ◌++◌, false, true, [], ◌∷◌, map, take, length, get_or, string_bytes, refl, sym, ap, ◌∙◌, arith, rules, Some}
 use Rattle.std.proofs.lemmas.Grind.{common_steps}
 use Rattle.std.proofs.Output.{displays_on_ok_of_eq}
 use Rattle.std.specs.Fmt.{◌++?◌}
-use Rattle.postcard_wire.specs.Tree.{trees}
 use Rattle.postcard_wire.specs.Tree as nodes
-use Rattle.postcard_value.specs.Tree.{tree}
 use Rattle.postcard_value.specs.declared.value.Value as values
-use Rattle.postcard_value_text.specs.Layout.{layout_of, layouts_of, fields_of, is_unit, has_brackets}
-use Rattle.postcard_value_text.specs.Shown.{text, texts, field_texts, field_text, entry_text, variant_text, option_text, parts_text, fields_text, enclosed, joined, all_by, each_by, lead}
-use Rattle.postcard_value_text.proofs.Joined.{items_more, item_more, parts_begin, then_more, displays_failed, two_then, one_then, encloses}
+use Rattle.postcard_value_text.specs.{fields_of, has_brackets, is_unit, layout_of, layouts_of, tree, trees}
+use Rattle.postcard_value_text.specs.Shown.{text, texts, field_texts, field_text, entry_text, variant_text, enclosed, joined, all_by, each_by, lead}
+use Rattle.postcard_value_text.proofs.Joined.{items_more, item_more, parts_begin, then_more, two_then, one_then, encloses}
 use Rattle.postcard_value_text.proofs.Layouts.{tuple_more, struct_more, variant_at, content_brackets, content_other, pair_trees, layout_of_map, layout_of_struct, layout_of_enum}
 use Rattle.postcard_value_text.proofs.show.+show.Goals as goal
 
@@ -121,12 +119,6 @@ show_option-returns-in-Absent g t c =
     let seen : tree values.Absent ≡ nodes.Absent = search (rules, values.the_lemmas) in
     rw (c.in-Absent.is, seen) c.write_str.ensures.writes
 
-pub show_option-returns-in_err-write_str-in-Present : goal.show_option-returns-in_err-write_str-in-Present
-show_option-returns-in_err-write_str-in-Present g t c = displays_failed g.W.Write.write_str_gives _ _ _ _ c.from_residual.ensures.0
-
-pub show_option-returns-in_err-show-in-Present : goal.show_option-returns-in_err-show-in-Present
-show_option-returns-in_err-show-in-Present g t c = displays_failed g.W.Write.write_str_gives _ _ _ _ c.from_residual-in_err-show-in-Present.ensures.0
-
 pub show_option-returns-in_ok-show-in-Present : goal.show_option-returns-in_ok-show-in-Present
 show_option-returns-in_ok-show-in-Present g t c =
     let b = c.in-Present.held in
@@ -136,20 +128,6 @@ show_option-returns-in_ok-show-in-Present g t c =
     (encloses g.W.Write.write_str_gives c.args.f.now c.write_str-in-Present.new.self c.show.new.f c.write_str-in-Present-2.new.self c.write_str-in-Present-2.result
     (83 ∷ 111 ∷ 109 ∷ 101 ∷ 40 ∷ []) (41 ∷ []) (text (layout_of c.args.content.now) (tree b.value))
     c.in_ok-write_str-in-Present.ensures.writes (rw d at c.in_ok-show-in-Present.ensures) c.write_str-in-Present-2.ensures.writes)
-
-pub show_option-returns-in_default : goal.show_option-returns-in_default
-show_option-returns-in_default g t c = displays_failed g.W.Write.write_str_gives c.args.f.now _ (Err record {}) (option_text (text (layout_of c.args.content.now)) (tree c.args.value.now)) refl
-
-pub show_tuple-returns-then-len : goal.show_tuple-returns-then-len
-show_tuple-returns-then-len g t c =
-    displays_failed g.W.Write.write_str_gives c.args.f.now _ (Err record {}) (parts_text (layouts_of c.args.parts.now.items) (texts (layouts_of c.args.parts.now.items)) (trees (map tree c.args.items.now.items))) refl
-
-pub show_struct-returns-then-len : goal.show_struct-returns-then-len
-show_struct-returns-then-len g t c =
-    displays_failed g.W.Write.write_str_gives c.args.f.now _ (Err record {}) (fields_text (field_texts (fields_of c.args.fields.now.items)) (trees (map tree c.args.items.now.items))) refl
-
-pub show_variant-returns-in_err-write_str : goal.show_variant-returns-in_err-write_str
-show_variant-returns-in_err-write_str g t c = displays_failed g.W.Write.write_str_gives _ _ _ _ c.from_residual.ensures.0
 
 pub show_variant-returns-then-has_brackets : goal.show_variant-returns-then-has_brackets
 show_variant-returns-then-has_brackets g t c =
@@ -162,12 +140,6 @@ show_variant-returns-then-has_brackets g t c =
     rw c.deref.ensures (ap (λ o. Some (string_bytes n.name) ++? o) (content_brackets x (text x) v full own)) in
     displays_on_ok_of_eq g.W.Write.write_str_gives c.args.f.now c.show.new.f c.show.result _ _ (sym whole)
     (one_then g.W.Write.write_str_gives c.args.f.now c.write_str.new.self c.show.new.f c.show.result c.deref.result.now (text x v) c.in_ok-write_str.ensures.writes c.show.ensures)
-
-pub show_variant-returns-in_err-write_str-2 : goal.show_variant-returns-in_err-write_str-2
-show_variant-returns-in_err-write_str-2 g t c = displays_failed g.W.Write.write_str_gives _ _ _ _ c.from_residual-in_err-write_str-2.ensures.0
-
-pub show_variant-returns-in_err-show : goal.show_variant-returns-in_err-show
-show_variant-returns-in_err-show g t c = displays_failed g.W.Write.write_str_gives _ _ _ _ c.from_residual-in_err-show.ensures.0
 
 pub show_variant-returns : goal.show_variant-returns
 show_variant-returns g t c =

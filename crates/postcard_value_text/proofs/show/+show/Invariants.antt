@@ -1,9 +1,7 @@
 -- The parts so far are written.
 use Rattle.std.proofs.Common.{codes, map, take, Ok, Some}
 use Rattle.std.specs.Fmt.{◌++?◌, DisplaysOnOk}
-use Rattle.postcard_wire.specs.Tree.{trees}
-use Rattle.postcard_value.specs.Tree.{tree}
-use Rattle.postcard_value_text.specs.Layout.{layout_of, layouts_of, fields_of}
+use Rattle.postcard_value_text.specs.{fields_of, layout_of, layouts_of, tree, trees}
 use Rattle.postcard_value_text.specs.Shown.{text, texts, field_texts, entry_text, joined, all_by, each_by}
 use Rattle.postcard_value_text.proofs.show.+show.Given as goal
 

@@ -3,7 +3,7 @@ use Rattle.std.proofs.Common.{[], ◌∷◌}
 use Rattle.std.specs.Prelude.{Some, None}
 use Rattle.std.proofs.lemmas.Bool.Decides.{Decides-eqb}
 use Rattle.std.proofs.lemmas.Slice.Eq.{strip_prefix_is}
-use Rattle.postcard_value_text.proofs.FieldNames.{quote_found, quote_none}
+use Rattle.postcard_value_text.proofs.Blanks.{quote_found, quote_none}
 use Rattle.postcard_value_text.proofs.words.after_name.Goals as goal
 
 pub returns-in-Some-clause-found : goal.returns-in-Some-clause-found

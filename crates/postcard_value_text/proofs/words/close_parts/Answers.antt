@@ -1,12 +1,10 @@
 -- A `,` is taken only after a part. Then the bracket must be next.
 use Rattle.std.proofs.Common.{◌≡◌, refl, sym, subst}
-use Rattle.postcard_schema_text.specs.Text.{TakesPhrase, IsSign, IsMaybe}
 use Rattle.postcard_schema_text.specs.FrontLemmas.{takes_split}
 use Rattle.postcard_schema_text.specs.Phrases.{takes_two}
-use Rattle.postcard_value_text.specs.Spelled.{Unless}
-use Rattle.postcard_value_text.proofs.Signs.{maybe_left}
-use Rattle.postcard_value_text.proofs.Quotes.{on_ok_as}
-use Rattle.postcard_value_text.proofs.Signs.{takes_none, none_taken, maybe_taken}
+use Rattle.postcard_value_text.specs.{IsMaybe, IsSign, TakesPhrase, Unless}
+use Rattle.postcard_value_text.proofs.Fronts.{maybe_left, takes_none, none_taken, maybe_taken}
+use Rattle.std.proofs.lemmas.Result.{on_ok_weaker}
 use Rattle.postcard_value_text.proofs.words.close_parts.Goals.{then-not-are_none, else-not-are_none}
 use Rattle.postcard_value_text.proofs.words.close_parts.Goals as goal
 
@@ -18,7 +16,8 @@ returns-clause-taken c =
       | then-not-are_none w ↦ rw (w.if-not-are_none.true, w.rest-is) (maybe_taken w.take.result a w.take.new.rest.now w.take.ensures.taken w.take.ensures.left)
       | else-not-are_none w ↦ rw (w.if-not-are_none.false, w.rest-is) (takes_none a)
     ] in
-    on_ok_as c.expect.result (takes_two (Unless c.args.are_none (IsMaybe 44)) (IsSign c.args.closing) a b c.expect.new.rest.now comma) c.expect.ensures.taken
+    on_ok_weaker c.expect.result (takes_two (Unless c.args.are_none (IsMaybe 44)) (IsSign c.args.closing) a b c.expect.new.rest.now comma)
+    c.expect.ensures.taken
 
 pub returns-clause-accepted : goal.returns-clause-accepted
 returns-clause-accepted c = λ after black differs h.

@@ -1,6 +1,6 @@
 -- No sign stands before the first part, and `,` before each other one.
 use Rattle.std.proofs.Common.{refl}
-use Rattle.postcard_value_text.proofs.Signs.{none_taken}
+use Rattle.postcard_value_text.proofs.Fronts.{none_taken}
 use Rattle.postcard_value_text.proofs.words.separate.Goals as goal
 
 pub returns-then-is_first-clause-accepted : goal.returns-then-is_first-clause-accepted

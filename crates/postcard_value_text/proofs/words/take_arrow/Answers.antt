@@ -3,7 +3,7 @@ use Rattle.std.proofs.Common.{refl, sym, subst}
 use Rattle.postcard_schema_text.specs.Text.{TakesPhrase, IsSign}
 use Rattle.postcard_schema_text.specs.FrontLemmas.{takes_split}
 use Rattle.postcard_schema_text.specs.Phrases.{takes_two}
-use Rattle.postcard_value_text.proofs.Quotes.{on_ok_as}
+use Rattle.std.proofs.lemmas.Result.{on_ok_weaker}
 use Rattle.postcard_value_text.proofs.words.take_arrow.Goals as goal
 
 pub returns-in_err-expect-clause-accepted : goal.returns-in_err-expect-clause-accepted
@@ -13,7 +13,7 @@ returns-in_err-expect-clause-accepted c = λ after h.
 
 pub returns-clause-taken : goal.returns-clause-taken
 returns-clause-taken c =
-    on_ok_as c.expect-2.result (takes_two (IsSign 61) (IsSign 62) c.args.rest.now.now c.expect.new.rest.now c.expect-2.new.rest.now c.in_ok-expect.ensures.taken) c.expect-2.ensures.taken
+    on_ok_weaker c.expect-2.result (takes_two (IsSign 61) (IsSign 62) c.args.rest.now.now c.expect.new.rest.now c.expect-2.new.rest.now c.in_ok-expect.ensures.taken) c.expect-2.ensures.taken
 
 pub returns-clause-accepted : goal.returns-clause-accepted
 returns-clause-accepted c = λ after h.

@@ -1,9 +1,8 @@
 -- A field's name is a word or stands between quotes. It can't be both, so what is taken is the only one there.
 use Rattle.std.proofs.Common.{sym, subst, ◌∙◌, inl, inr}
-use Rattle.postcard_schema_text.specs.Text.{TakesPhrase, IsWord}
 use Rattle.postcard_schema_text.specs.Phrases.{takes_as}
-use Rattle.postcard_value_text.specs.Spelled.{IsQuotedName, IsFieldName}
-use Rattle.postcard_value_text.proofs.FieldNames.{field_is, word_or_quote}
+use Rattle.postcard_value_text.specs.{IsFieldName, IsQuotedName, IsWord, TakesPhrase}
+use Rattle.postcard_value_text.proofs.Blanks.{field_is, word_or_quote}
 use Rattle.postcard_value_text.proofs.words.take_field.Goals as goal
 
 pub returns-then-take_name-clause-taken : goal.returns-then-take_name-clause-taken

@@ -1,11 +1,10 @@
 -- A label is a field's name and then `:`.
 use Rattle.std.proofs.Common.{refl, sym, subst}
-use Rattle.postcard_schema_text.specs.Text.{TakesPhrase, IsSign}
 use Rattle.postcard_schema_text.specs.FrontLemmas.{takes_split, sign_ends_word}
 use Rattle.postcard_schema_text.specs.Phrases.{takes_two}
-use Rattle.postcard_value_text.specs.Spelled.{IsFieldName}
-use Rattle.postcard_value_text.proofs.FieldNames.{field_more, field_trimmed}
-use Rattle.postcard_value_text.proofs.Quotes.{on_ok_as}
+use Rattle.postcard_value_text.specs.{IsFieldName, IsSign, TakesPhrase}
+use Rattle.postcard_value_text.proofs.Blanks.{field_more, field_trimmed}
+use Rattle.std.proofs.lemmas.Result.{on_ok_weaker}
 use Rattle.postcard_value_text.proofs.words.take_label.Goals as goal
 
 pub returns-then-not-take_field-clause-accepted : goal.returns-then-not-take_field-clause-accepted
@@ -20,7 +19,7 @@ returns-clause-taken c =
     let name = c.args.name.now in
     let word = field_more name c.args.rest.now.now c.skip_blanks.new.rest.now c.take_field.new.rest.now c.skip_blanks.ensures
     (rw c.as_bytes.ensures.value at (c.take_field.ensures.taken c.if-not-take_field.false)) in
-    on_ok_as c.expect.result (takes_two (IsFieldName name) (IsSign 58) c.args.rest.now.now c.take_field.new.rest.now c.expect.new.rest.now word) c.expect.ensures.taken
+    on_ok_weaker c.expect.result (takes_two (IsFieldName name) (IsSign 58) c.args.rest.now.now c.take_field.new.rest.now c.expect.new.rest.now word) c.expect.ensures.taken
 
 pub returns-clause-accepted : goal.returns-clause-accepted
 returns-clause-accepted c = λ some after h.

@@ -2,7 +2,7 @@
 use Rattle.std.proofs.Common.{[], ◌∷◌, ◌++◌, ◌≡◌, refl}
 use Rattle.postcard_schema_text.specs.Text.{IsSign}
 use Rattle.postcard_schema_text.specs.FrontLemmas.{takes_split}
-use Rattle.postcard_value_text.proofs.FieldNames.{quoted_taken, quoted_left, same_left}
+use Rattle.postcard_value_text.proofs.Blanks.{quoted_taken, quoted_left, same_left}
 use Rattle.postcard_value_text.proofs.words.take_quoted_name.Goals as goal
 
 pub returns-in-Some-clause-taken : goal.returns-in-Some-clause-taken
