@@ -13,13 +13,16 @@ use Rattle.postcard_schema.specs.Lemmas.{size_some}
 use Rattle.postcard_value.specs.{Spells, SpellsAll, float_size, size_of}
 use Rattle.postcard_value.specs.TypeLaws.{by_integer}
 
+-- The digits of a varint are at least one byte.
 digits_some : (p : List ℕ) → AreDigits p → 0 < length p
 digits_some [] d = absurd d
 digits_some (b ∷ bs) d = omega arith
 
+-- A number has at least one byte.
 num_some : (w n : ℕ) (p : List ℕ) → SpellsNum w n p → 0 < length p
 num_some w n p s = digits_some p s.digits
 
+-- A list of one byte isn't empty.
 one_some : (p : List ℕ) (b : ℕ) → p ≡ b ∷ [] → 0 < length p
 one_some p b e = let l = ap length e in omega arith
 
@@ -27,6 +30,7 @@ one_some p b e = let l = ap length e in omega arith
 front_some : (p x y : List ℕ) → p ≡ x ++ y → 0 < length x → 0 < length p
 front_some p x y e l = let n = ap length e ∙ length-append x y in omega arith
 
+-- A list that ends with a filled list isn't empty.
 back_some : (p x y : List ℕ) → p ≡ x ++ y → 0 < length y → 0 < length p
 back_some p x y e l = let n = ap length e ∙ length-append x y in omega arith
 
@@ -34,6 +38,7 @@ back_some p x y e l = let n = ap length e ∙ length-append x y in omega arith
 abbrev HasBytes : (Tree → Type 0) → Type 0
 HasBytes R = (s : Tree) (p : List ℕ) → R s → Spells s p → 0 < length p
 
+-- Some elements that have bytes have bytes together.
 elements_some : (R : Tree → Type 0) → HasBytes R → (ts : Trees) (p : List ℕ)
     → 0 < count ts → Each R ts → SpellsAll ts p → 0 < length p
 elements_some R one NoTrees p n r q = absurd (omega arith)
@@ -43,10 +48,12 @@ elements_some R one (Then s ss) p n r q = front_some p q.0 q.1 q.4 (one s q.0 r.
 array_some : (k : ℕ) → 0 < k → HasBytes (IsArray k IsByte)
 array_some k some s p r q = elements_some IsByte (λ t u b l. one_some u _ (rw b.1 at l)) r.0 p (rw r.2 some) r.3 (rw r.1 at q)
 
+-- A float has bytes.
 float_some : (f : Float) → 0 < float_size f
 float_some F32 = omega arith
 float_some F64 = omega arith
 
+-- A value of a type without parts has bytes.
 leaf_some : (l : Leaf) (s : Tree) (p : List ℕ) → leaf_reads l s → Spells s p → 0 < length p
 leaf_some leaves.Bool s p r q = one_some p _ (rw r.1 at q)
 leaf_some (leaves.Integer i) s p r q =
@@ -58,6 +65,7 @@ leaf_some leaves.Str s p r q = let k = rw r.1 at q in front_some p k.0 k.1 k.4 (
 leaf_some leaves.Bytes s p r q = let k = rw r.1 at q in front_some p k.0 k.1 k.4 (num_some 64 _ k.0 k.2)
 leaf_some (leaves.Fixed order i) s p r q = array_some (size_of i) (size_some i) s p r q
 
+-- If two conditions hold, the second does.
 both : (a b : Bool) → (if a then b else false) ≡ true → b ≡ true
 both true b h = h
 both false b h = cc

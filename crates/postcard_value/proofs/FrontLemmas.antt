@@ -17,25 +17,31 @@ use Rattle.postcard_value.specs.Fronts.{FrontSpells, HasNoFront, HasNoRow, Spell
 
 -- ---- rows of trees
 
+-- The trees of one row, and then those of another.
 abbrev join : Trees → Trees → Trees
 join NoTrees ss = ss
 join (Then t ts) ss = Then t (join ts ss)
 
+-- Joined rows have as many trees as both.
 count_join : (ts ss : Trees) → count (join ts ss) ≡ count ts + count ss
 count_join NoTrees ss = omega arith
 count_join (Then t ts) ss = omega (arith, count_join ts ss)
 
+-- What holds of each tree of two rows holds of each of the joined row.
 each_join : (R : Tree → Type 0) (ts ss : Trees) → Each R ts → Each R ss → Each R (join ts ss)
 each_join R NoTrees ss a b = b
 each_join R (Then t ts) ss a b = (a.0, each_join R ts ss a.1 b)
 
+-- The encodings of two rows, joined, encode the joined row.
 all_join : (ts ss : Trees) (p q : List ℕ) → SpellsAll ts p → SpellsAll ss q → SpellsAll (join ts ss) (p ++ q)
 all_join NoTrees ss p q a b = rw a b
 all_join (Then t ts) ss p q (x, y, s, k, e) b = (x, y ++ q, s, all_join ts ss y q k b, ap (λ r. r ++ q) e ∙ append_assoc x y q)
 
+-- A row of one tree has the encodings of the tree.
 alone : (t : Tree) (p : List ℕ) → Spells t p → SpellsAll (Then t NoTrees) p
 alone t p s = (p, [], s, refl, sym (append-nil p))
 
+-- The trees of two rows of types, joined, are those of the joined row.
 reads_join : (ss us : List Schema) (a b : Trees) → reads_all (types_of ss) a → reads_all (types_of us) b → reads_all (types_of (ss ++ us)) (join a b)
 reads_join [] us a b h k = rw h k
 reads_join (s ∷ ss) us a b (t, ts, e, r, h) k = rw e (t, join ts b, refl, r, reads_join ss us ts b h k)
@@ -67,6 +73,7 @@ part_more xs i x done front low found d f =
     let more : take (i + 1) xs ≡ take i xs ++ x ∷ [] = take_more xs i x low ∙ ap (λ y. take i xs ++ y ∷ []) (sym found) in
     rw more (parts_more (take i xs) x done front d f)
 
+-- The contents of joined rows are their contents joined.
 contents_join : (ns ms : List (Named Schema)) → contents (ns ++ ms) ≡ contents ns ++ contents ms
 contents_join [] ms = refl
 contents_join (n ∷ ns) ms = ap (λ xs. n.content ∷ xs) (contents_join ns ms)
@@ -126,11 +133,13 @@ variant_none s variants bytes index rest i x is low found cut few num none =
 
 -- ---- depths
 
+-- A part of a tuple is nested at most as deeply as the deepest part.
 greatest_at : (ss : List Schema) (i : ℕ) (x : Schema) → i < length ss → x ≡ get_or ss i x → depth (type_of x) ≤ greatest_depth (types_of ss)
 greatest_at [] i x low e = absurd (omega (arith, low))
 greatest_at (s ∷ ss) zero x low e = let same : depth (type_of x) ≡ depth (type_of s) = ap (λ y. depth (type_of y)) e in omega (arith, same)
 greatest_at (s ∷ ss) (suc i) x low e = omega (arith, greatest_at ss i x (omega (arith, low)) e)
 
+-- The same of a field or a variant.
 greatest_content : (ns : List (Named Schema)) (i : ℕ) (x : Named Schema) → i < length ns → x ≡ get_or ns i x
     → depth (type_of x.content) ≤ greatest_depth (types_of (contents ns))
 greatest_content [] i x low e = absurd (omega (arith, low))
@@ -138,15 +147,18 @@ greatest_content (n ∷ ns) zero x low e = let same : depth (type_of x.content) 
     (type_of y.content)) e in omega (arith, same)
 greatest_content (n ∷ ns) (suc i) x low e = omega (arith, greatest_content ns i x (omega (arith, low)) e)
 
+-- A part of a tuple is nested less deeply than the tuple.
 pub part_depth : (s : Schema) (parts : Vec Schema Global) (i : ℕ) (x : Schema) → s ≡ schemas.Tuple parts → i < length parts.items
     → x ≡ get_or parts.items i x
     → depth (type_of x) < depth (type_of s)
 part_depth s parts i x is low found = rw (is, type_of_tuple parts) (omega (arith, greatest_at parts.items i x low found))
 
+-- A field is nested less deeply than its struct.
 pub field_depth : (s : Schema) (fields : Vec (Named Schema) Global) (i : ℕ) (x : Named Schema) → s ≡ schemas.Struct fields → i < length fields.items
     → x ≡ get_or fields.items i x → depth (type_of x.content) < depth (type_of s)
 field_depth s fields i x is low found = rw (is, type_of_struct fields) (omega (arith, greatest_content fields.items i x low found))
 
+-- The content of a variant is nested less deeply than the enum.
 pub variant_depth : (s : Schema) (variants : Vec (Named Schema) Global) (i : ℕ) (x : Named Schema) → s ≡ schemas.Enum variants
     → i < length variants.items
     → x ≡ get_or variants.items i x → depth (type_of x.content) < depth (type_of s)

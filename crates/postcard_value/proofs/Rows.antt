@@ -52,6 +52,7 @@ pub record GoingRow {S : Type 0} (left : S → Left) (able : S → ℕ → Type 
 abbrev pub IsOver : (Trees → Type 0) → Type 0
 IsOver rest = rest NoTrees × ((ts : Trees) → rest ts → ts ≡ NoTrees)
 
+-- A row of no elements is empty.
 no_elements : (R : Tree → Type 0) (ts : Trees) → AreRead 0 R ts → ts ≡ NoTrees
 no_elements R NoTrees a = refl
 no_elements R (Then t ts) a = absurd (omega (arith, a.0))

@@ -31,9 +31,11 @@ use Rattle.postcard_value_text.proofs.Fronts.{AreScalars, blank_other, one_numbe
 
 -- ---- the hexadecimal digits of a number
 
+-- A digit is a byte of a word.
 digit_of_word : (b : ℕ) → digit_value b < 16 → is_of_word b ≡ true
 digit_of_word b low = grind (arith, nat_tests, low)
 
+-- Digits are bytes of a word.
 digits_of_word : (ds : List ℕ) → AllDigits 16 ds → AllPass is_of_word ds
 digits_of_word [] all = All-nil _
 digits_of_word (d ∷ ds) all = All-cons (λ b. is_of_word b ≡ true) d ds (digit_of_word d all.0) (digits_of_word ds all.1)
@@ -48,6 +50,7 @@ nan_reads : (f : Format) → parse_float f (codes "nan") ≡ Some nan
 unfolding read_float scan_numeral
 nan_reads f = refl
 
+-- The bits of the usual NaN of an `f32`.
 nan_32 : to_bits binary32 nan ≡ 0x7fc0_0000
 unfolding to_bits
 nan_32 = refl
@@ -60,6 +63,7 @@ nan_64 = refl
 pub word_spells : (f : Format) (bits : ℕ) (x : Float) (word : List ℕ) → parse_float f word ≡ Some x → bits ≡ to_bits f x → SpellsFloat f bits word
 word_spells f bits x word reads is = inl ([], word, no_blanks, (x, reads, is), refl)
 
+-- A filled word is the text of a word.
 plain_word : (word : List ℕ) → AllPass is_of_word word → IsWord word word
 plain_word word pass = (pass, ([], word, no_blanks, refl, refl))
 
@@ -119,6 +123,7 @@ nan_taken f bits word text a b c are is taken sign code =
     (takes_two (IsWord (codes "nan")) (Then (IsSign 40) (Then (IsHexadecimal bits) (IsSign 41))) text a c first
     (takes_two (IsSign 40) (Then (IsHexadecimal bits) (IsSign 41)) a b c sign code))
 
+-- A byte of a word is no `+`.
 no_plus : (b : ℕ) → is_of_word b ≡ true → (b == 43) ≡ false
 no_plus b pass = grind (arith, nat_tests, pass)
 
@@ -156,6 +161,7 @@ stuck (b ∷ bs) h =
 ends_at_other : (s b : ℕ) → is_of_float b ≡ false → float_scan_step s b ≡ 7
 ends_at_other s b h = grind (arith, nat_tests, h)
 
+-- A text that is a number has only bytes of numbers.
 number_all : (s : ℕ) (bs : List ℕ) → completes_number s bs ≡ true → AllPass is_of_float bs
 number_all s [] h = All-nil _
 number_all s (b ∷ bs) h = elim (cases_Bool (is_of_float b)) [
@@ -167,6 +173,7 @@ number_all s (b ∷ bs) h = elim (cases_Bool (is_of_float b)) [
 letter_case : (b w : ℕ) → is_ascii_lowercase w ≡ true → to_ascii_lowercase b ≡ w → is_of_float b ≡ true
 letter_case b w small is = grind (arith, nat_tests, small, is)
 
+-- A text that is a word in any case, such as `inf`, has only bytes of numbers.
 word_all : (bs ws : List ℕ) → list_all is_ascii_lowercase ws ≡ true → lowercases_to bs ws ≡ true → AllPass is_of_float bs
 word_all [] ws small h = All-nil _
 word_all (b ∷ bs) [] small h = absurd (true≢false (sym h))
@@ -175,6 +182,7 @@ word_all (b ∷ bs) (w ∷ ws) small h =
     let k = and_parts (to_ascii_lowercase b == w) (lowercases_to bs ws) h in
     All-cons (λ x. is_of_float x ≡ true) b bs (letter_case b w s.0 (eqb-true _ w k.0)) (word_all bs ws s.1 k.1)
 
+-- The text of a float without a sign has only bytes of numbers.
 unsigned_all : (bs : List ℕ) → completes_number 0 bs || (is_infinity_text bs || is_nan_text bs) ≡ true → AllPass is_of_float bs
 unsigned_all bs h = elim (or_cases (completes_number 0 bs) (is_infinity_text bs || is_nan_text bs) h) [
   | inl n ↦ number_all 0 bs n
@@ -190,6 +198,7 @@ unsigned_all bs h = elim (or_cases (completes_number 0 bs) (is_infinity_text bs 
 sign_passes : (b : ℕ) → b == 43 || b == 45 ≡ true → is_of_float b ≡ true
 sign_passes b h = grind (arith, nat_tests, h)
 
+-- The text of a float with a sign has only bytes of numbers.
 signed_all : (bs : List ℕ) → AllPass is_of_float (without_sign bs) → AllPass is_of_float bs
 signed_all [] h = All-nil _
 signed_all (b ∷ bs) h = elim (cases_Bool (b == 43 || b == 45)) [

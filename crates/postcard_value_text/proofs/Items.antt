@@ -38,15 +38,19 @@ closing_as : (P : ℕ → Type 0) (closing : ℕ) → IsClosing closing → P 93
 closing_as P closing (inl e) p q = subst P (sym e) p
 closing_as P closing (inr e) p q = subst P (sym e) q
 
+-- A closing bracket is no blank.
 black_closing : (closing : ℕ) → IsClosing closing → is_ascii_whitespace closing ≡ false
 black_closing closing is = closing_as (λ b. is_ascii_whitespace b ≡ false) closing is refl refl
 
+-- A closing bracket is no comma.
 no_comma : (closing : ℕ) → IsClosing closing → closing ≢ 44
 no_comma closing is = closing_as (λ b. b ≢ 44) closing is (λ e. omega (arith, e)) (λ e. omega (arith, e))
 
+-- No value begins with a closing bracket.
 no_value : (closing : ℕ) → IsClosing closing → begins_value closing ≡ false
 no_value closing is = closing_as (λ b. begins_value b ≡ false) closing is refl refl
 
+-- A closing bracket may follow a value.
 closing_passes : (closing : ℕ) → IsClosing closing → follows_type closing ≡ true
 closing_passes closing is = closing_as (λ b. follows_type b ≡ true) closing is refl refl
 
@@ -64,6 +68,7 @@ closed_none : (closing : ℕ) (a r : List ℕ) → TakesPhrase (IsSign closing) 
 closed_none closing a r close =
     takes_two (Row []) (Then (Unless true (IsMaybe 44)) (IsSign closing)) a a r (takes_none a) (takes_two (Unless true (IsMaybe 44)) (IsSign closing) a a r (takes_none a) close)
 
+-- A row of one phrase is that phrase.
 row_one : (P : Phrase) (a m : List ℕ) → TakesPhrase P a m → TakesPhrase (Row (P ∷ [])) a m
 row_one P a m one = takes_two P (RowAfter []) a m m one (takes_none m)
 

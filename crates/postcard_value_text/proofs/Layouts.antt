@@ -94,6 +94,7 @@ ends_one [] e = absurd (omega (arith, e))
 ends_one (s ∷ []) e = refl
 ends_one (s ∷ u ∷ ss) e = absurd (omega (arith, e))
 
+-- A tuple ends with `)` alone, if it hasn't just one part.
 pub ends_other : (ss : List Schema) → (length ss ≡ 1 → ⊥) → tuple_end (layouts_of ss) ≡ 41 ∷ []
 ends_other [] e = refl
 ends_other (s ∷ []) e = absurd (e refl)
@@ -112,6 +113,7 @@ pub is_nothing : (ss : List Schema) → (length ss == 0) ≡ is_unit (tuple (lay
 is_nothing [] = refl
 is_nothing (s ∷ ss) = eqb-suc-zero (length ss)
 
+-- A tuple without parts has no types.
 pub no_part : (ss : List Schema) → (length ss == 0) ≡ true → types_of ss ≡ no_types
 no_part [] e = refl
 no_part (s ∷ ss) e = cc (sym (eqb-suc-zero (length ss)) ∙ e)

@@ -1,4 +1,4 @@
--- The first byte of a value's text, after blanks: it is no closing bracket.
+-- The first byte of a value's text, after blanks: it is neither `]` nor `}`.
 use Rattle.std.proofs.Common.{◌≡◌, ℕ, zero, suc, ◌<◌, Bool, true, false, not, nat_eq, ◌||◌, List, [], ◌∷◌, ◌++◌, length, codes, refl, arith, inl, inr}
 use Rattle.std.proofs.lemmas.Bool.Decides.{nat_tests}
 use Rattle.std.specs.Char.{is_ascii_whitespace}
@@ -23,9 +23,11 @@ use Rattle.postcard_value_text.proofs.FloatTexts.{float_scalars}
 abbrev pub begins_value : ℕ → Bool
 begins_value b = not (nat_eq b 93 || nat_eq b 125)
 
+-- A value may begin with a byte of a word.
 word_begins : (b : ℕ) → is_of_word b ≡ true → begins_value b ≡ true
 word_begins b h = grind (arith, nat_tests, h)
 
+-- A value may begin with a byte of a number.
 float_begins : (b : ℕ) → is_of_float b ≡ true → begins_value b ≡ true
 float_begins b h = grind (arith, nat_tests, h)
 
@@ -33,6 +35,7 @@ float_begins b h = grind (arith, nat_tests, h)
 pub sign_opens : (sign : ℕ) (a r : List ℕ) → is_ascii_whitespace sign ≡ false → begins_value sign ≡ true → TakesPhrase (IsSign sign) a r → Starts begins_value a
 sign_opens sign a r black begins h = (sign, r, sign_unblank sign a r black h, begins)
 
+-- A text that begins with a word begins as a value.
 word_opens : (word a r : List ℕ) → 0 < length word → TakesPhrase (IsWord word) a r → Starts begins_value a
 word_opens [] a r some h = absurd (omega (arith, some))
 word_opens (x ∷ word) a r some (front, (pass, led), whole) = (x, word ++ r, word_unblank x word a r (front, (pass, led), whole), word_begins x (pass_head is_of_word x word pass))
@@ -43,6 +46,7 @@ then_sign_opens sign Q a r black begins h = let k = takes_split (IsSign sign) Q 
 then_word_opens : (word : List ℕ) (Q : Phrase) (a r : List ℕ) → 0 < length word → TakesPhrase (Then (IsWord word) Q) a r → Starts begins_value a
 then_word_opens word Q a r some h = let k = takes_split (IsWord word) Q a r h in word_opens word a k.0 some k.1
 
+-- A text that begins with a number begins as a value.
 scalar_opens : (P : Phrase) (a r : List ℕ) → AreScalars P → TakesPhrase (Led P) a r → Starts begins_value a
 scalar_opens P a r each h = by (scalar_after_blanks P a r each h)
   where
@@ -50,14 +54,17 @@ scalar_opens P a r each h = by (scalar_after_blanks P a r each h)
     by ([], p, some, all, e) = absurd (omega (arith, some))
     by (x ∷ word, p, some, all, e) = (x, word ++ r, e, float_begins x (pass_head is_of_float x word all))
 
+-- A text that begins with a float begins as a value.
 float_opens : (f : Format) (bits : ℕ) (a r : List ℕ) → TakesPhrase (SpellsFloat f bits) a r → Starts begins_value a
 float_opens f bits a r (front, inl p, whole) = scalar_opens (IsFloatWord f bits) a r (float_scalars f bits) (front, p, whole)
 float_opens f bits a r (front, inr p, whole) =
     then_word_opens (codes "nan") (Then (IsSign 40) (Then (IsHexadecimal bits) (IsSign 41))) a r (omega arith) (front, p.1, whole)
 
+-- A text that begins with a quote begins as a value.
 quoted_opens : (quote : ℕ) (held a r : List ℕ) → is_ascii_whitespace quote ≡ false → begins_value quote ≡ true → TakesPhrase (IsQuoted quote held) a r → Starts begins_value a
 quoted_opens quote held a r black begins h = then_sign_opens quote (Then (ArePieces quote held) (λ end. end ≡ quote ∷ [])) a r black begins h
 
+-- The text of a value without parts begins as a value.
 leaf_opens : (l : Leaf) (t : Tree) (a r : List ℕ) → TakesPhrase (SpellsLeaf l t) a r → Starts begins_value a
 leaf_opens leaves.Bool (Boolean x) a r h = scalar_opens (IsTruth x) a r (truth_scalars x) h
 leaf_opens (leaves.Integer i) t a r (front, (n, is, h), whole) = scalar_opens (HasBits (is_signed i) i n) a r (bits_scalars (is_signed i) i n) (front, h, whole)
@@ -68,12 +75,13 @@ leaf_opens leaves.Bytes (nodes.Seq ts) a r (front, (bytes, is, (digits, held, wo
 leaf_opens (leaves.Fixed order i) t a r (front, (n, is, h), whole) = scalar_opens (HasBits (is_signed i) i n) a r (bits_scalars (is_signed i) i n) (front, h, whole)
 leaf_opens l t a r (front, none, whole) = absurd none
 
+-- The text of a variant begins as a value.
 variant_opens : (fs : Fields) (i : ℕ) (t : Tree) (a r : List ℕ) → AreNamed fs → TakesPhrase (SpellsAt fs i t) a r → Starts begins_value a
 variant_opens no_fields i t a r names (front, none, whole) = absurd none
 variant_opens (then_field n x fs) zero t a r names h = then_word_opens n (SpellsContent x (SpellsTree x) t) a r names.0 h
 variant_opens (then_field n x fs) (suc i) t a r names h = variant_opens fs i t a r names.2 h
 
--- The text of a value begins with no closing bracket.
+-- The text of a value begins, after blanks, with neither `]` nor `}`.
 pub tree_opens : (x : Layout) (t : Tree) (a r : List ℕ) → HasDistinctNames x → TakesPhrase (SpellsTree x t) a r → Starts begins_value a
 tree_opens (leaf l) t a r names h = leaf_opens l t a r h
 tree_opens (option x) nodes.Absent a r names h = word_opens (codes "None") a r (omega arith) h
@@ -86,7 +94,7 @@ tree_opens (structure fs) (nodes.Group ts) a r names h = then_sign_opens 123 (Ar
 tree_opens (choice fs) (nodes.Variant i t) a r names h = variant_opens fs i t a r names.1 h
 tree_opens x t a r names (front, none, whole) = absurd none
 
--- An entry of a map begins with its key, and so with no closing bracket.
+-- An entry of a map begins with its key, and so with neither `]` nor `}`.
 pub entry_opens : (x : Layout) (V : Speller) (t : Tree) (a r : List ℕ) → HasDistinctNames x → TakesPhrase (SpellsEntry (SpellsTree x) V t) a r → Starts begins_value a
 entry_opens x V (nodes.Group (nodes.Then t (nodes.Then u NoTrees))) a r names h =
     let k = takes_split (SpellsTree x t) (Then (IsSign 61) (Then (IsSign 62) (V u))) a r h in

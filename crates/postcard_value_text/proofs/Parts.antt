@@ -50,14 +50,17 @@ row_split false P Ps a b h =
     let two = takes_split P (RowAfter Ps) one.0 b one.2 in
     (one.0, two.0, one.1, two.1, two.2)
 
+-- What follows a part of a row may follow a value.
 row_follows : (Ps : List Phrase) (a b : List ℕ) → FollowsValue b → TakesPhrase (RowAfter Ps) a b → FollowsValue a
 row_follows [] a b goes h = subst FollowsValue (sym (none_taken a b h)) goes
 row_follows (P ∷ Ps) a b goes h = let k = takes_split (IsSign 44) (Then P (RowAfter Ps)) a b h in sign_follows 44 a k.0 refl k.1
 
+-- An empty row takes nothing.
 row_ends : (first : Bool) (a : List ℕ) → TakesPhrase (RowFrom first []) a a
 row_ends true a = takes_none a
 row_ends false a = takes_none a
 
+-- If an empty row is taken, nothing was taken.
 row_ended : (first : Bool) (a b : List ℕ) → TakesPhrase (RowFrom first []) a b → a ≡ b
 row_ended true a b h = none_taken a b h
 row_ended false a b h = none_taken a b h
