@@ -21,7 +21,7 @@ use Rattle.serde_json.specs.View.{items_of}
 use Rattle.serde_json.proofs.Views.{get_member-put, get_member-put_other}
 use Rattle.postcard_value_json.specs.Written.{Writer, add_member, all_json, alone, array_json, can_be_null, each_json, entry_json, field_writers, json_at, json_of, list_json, members_json, option_json, parts_json, parts_row, row, variant_json, writers}
 use Rattle.postcard_value_json_read.specs.Reading.{Reading, AreFields, AreItems, AreParts, HasMembers, IsArrayJson, IsEntryJson, IsJsonAt, IsJsonOf, IsListJson, IsOptionJson, IsVariantJson, fields_len, pair}
-use Rattle.postcard_value_json_read.proofs.BackLeaves.{leaf_back}
+use Rattle.postcard_value_json_read.proofs.BackLeaves.{leaf_back, same_group, same_seq}
 use Rattle.postcard_value_json_read.proofs.Groups.{some_is}
 
 -- What the writer writes of each tree of P is read as that tree by R.
@@ -75,12 +75,6 @@ option_back m x h (nodes.Present s) d (inr (u, is, r)) e = by (can_be_null x) e
     by true e = let k = mapped (alone (codes "Some")) (json_of x s) d e in (k.0, sym k.2, inner k.0 k.1)
     by false e = inner d e
 option_back m x h t d r e = absurd (cc e)
-
-same_seq : (ts us : Trees) → nodes.Seq ts ≡ nodes.Seq us → ts ≡ us
-same_seq ts us e = cc e
-
-same_group : (ts us : Trees) → nodes.Group ts ≡ nodes.Group us → ts ≡ us
-same_group ts us e = cc e
 
 module _ (P : Tree → Type 0) (p : Writer) (R : Reading) where
   all_back : IsBack P p R → (ts : Trees) (ds : List Data) → Each P ts → all_json p ts ≡ Some ds → AreItems R ts (items_of ds)

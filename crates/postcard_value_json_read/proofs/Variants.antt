@@ -1,6 +1,7 @@
 -- Lemmas on variants that are read from JSON.
 use Rattle.std.proofs.Common.{◌≡◌, ℕ, zero, suc, ◌+◌, ◌<◌, ◌^◌, Bool, true, false, List, [], ◌∷◌, length, get_or, Option, Some, None, option_map, bytes_eq, string_bytes, Bor, refl, sym, ap, ap₂, subst, ◌∙◌, true≢false, arith, ◌⊎◌, inl, inr}
 use Rattle.std.specs.Prelude.{is_some, IfSome, IfNone}
+use Rattle.std.proofs.lemmas.List.{get_or_default}
 use Rattle.std.proofs.lemmas.Slice.Eq.{bytes_eq-Decides}
 use Rattle.postcard_wire.specs.Tree.{Tree, NoTrees}
 use Rattle.postcard_wire.specs.Tree as nodes
@@ -11,6 +12,7 @@ use Rattle.postcard_schema.specs.Meaning.{MessageType, contents, group, no_types
 use Rattle.postcard_value_text.specs.Accepted.{AreNotCalled, HasDistinctNames, NamesDiffer}
 use Rattle.postcard_value_text.specs.Layout.{Layout, tuple, no_layouts, then_layout, fields_of, is_unit, layout_of}
 use Rattle.postcard_value_text.specs.Layout as layouts
+use Rattle.postcard_value_text.proofs.Groups.{named_at}
 use Rattle.serde_json.specs.declared.value.Value as json
 use Rattle.serde_json.specs.Data.{Data, Members, object, string, no_members, member}
 use Rattle.serde_json.specs.Events.{members_len}
@@ -20,7 +22,7 @@ use Rattle.serde_json.proofs.Views.{Entry, member_here, member_later, get_member
 use Rattle.postcard_value_json.specs.Written.{alone}
 use Rattle.postcard_value_json_read.specs.Reading.{Reading, IsJsonOf, IsJsonAt, IsChoiceJson, IsVariantJson}
 use Rattle.postcard_value_json_read.specs.Accepted.{IsOnly, IsReading, IsContentReading, IsJsonOfVariant, IsNameIn}
-use Rattle.postcard_value_json_read.proofs.Groups.{named_at, some_is}
+use Rattle.postcard_value_json_read.proofs.Groups.{some_is}
 
 -- ---- names
 
@@ -193,9 +195,7 @@ one_index ns k u d differ found first f =
     omega (arith, not_after, not_before)
 
 same_variant : (ns : List (Named Schema)) (i : ℕ) (n z : Named Schema) → i < length ns → n ≡ get_or ns i n → z ≡ get_or ns i z → z ≡ n
-same_variant [] i n z low here there = absurd (omega (arith, low))
-same_variant (m ∷ ns) zero n z low here there = there ∙ sym here
-same_variant (m ∷ ns) (suc i) n z low here there = same_variant ns i n z (omega (arith, low)) here there
+same_variant ns i n z low here there = there ∙ get_or_default ns i z n low ∙ sym here
 
 -- What is read as a variant is read as the variant at the index that was found.
 pub variant_by : (ns : List (Named Schema)) (k : ℕ) (n : Named Schema) (u : Tree) (d : Data) → k < length ns → n ≡ get_or ns k n → (f : VariantForm ns u d) → k ≡ f.index
@@ -213,7 +213,7 @@ variant_only ns k n t d small low here found first (h, one) = (
   λ names u r.
       let f = variant_form ns u d r in
       let at : k ≡ f.index = one_index ns k u d names.0 found first f in
-      let content : f.content ≡ t = one (named_at ns k n names.1 low here) f.content (variant_by ns k n u d low here f at) in
+      let content : f.content ≡ t = one (named_at ns k n low here names.1).1 f.content (variant_by ns k n u d low here f at) in
       f.is ∙ ap₂ nodes.Variant (sym at) content,
 )
 
