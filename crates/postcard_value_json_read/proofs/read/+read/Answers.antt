@@ -105,12 +105,11 @@ read_list-returns-in_default t c =
 pub read_list-returns-in_err-values : goal.read_list-returns-in_err-values
 read_list-returns-in_err-values t c =
     let d = view c.args.json.now in
-    let m = type_of c.args.element.now in
     let x = layout_of c.args.element.now in
     let ds = items_view c.in-Some.items.now.items in
     let form : d ≡ values.array ds = array_is d ds (rw c.in-Some.is at c.as_array.ensures) in
     rw (is_err c.from_residual.result _ c.from_residual.ensures.1) (λ names u r.
-    let k = list_form (reads m) (IsJsonOf x) u ds (rw form at r) in c.in_err-values.ensures names k.0 k.2)
+    let k = list_form (reads (type_of c.args.element.now)) (IsJsonOf x) u ds (rw form at r) in c.in_err-values.ensures names k.0 k.2)
 
 pub read_list-returns : goal.read_list-returns
 read_list-returns t c =
@@ -134,12 +133,11 @@ read_array-returns-in_default t c =
 pub read_array-returns-in_err-values : goal.read_array-returns-in_err-values
 read_array-returns-in_err-values t c =
     let d = view c.args.json.now in
-    let m = type_of c.args.element.now in
     let x = layout_of c.args.element.now in
     let ds = items_view c.in-Some.items.now.items in
     let form : d ≡ values.array ds = array_is d ds (rw c.in-Some.is at c.as_array.ensures) in
     rw (is_err c.from_residual.result _ c.from_residual.ensures.1) (λ names u r.
-    let k = array_form (reads m) (IsJsonOf x) c.args.count u ds (rw form at r) in c.in_err-values.ensures names k.0 k.3)
+    let k = array_form (reads (type_of c.args.element.now)) (IsJsonOf x) c.args.count u ds (rw form at r) in c.in_err-values.ensures names k.0 k.3)
 
 pub read_array-returns-then-len-count : goal.read_array-returns-then-len-count
 read_array-returns-then-len-count t c =
@@ -176,15 +174,13 @@ pub read_items-returns-in_err-value : goal.read_items-returns-in_err-value
 read_items-returns-in_err-value t c =
     let m = type_of c.args.element.now in
     let x = layout_of c.args.element.now in
-    let xs = c.deref-item-items.result.now in
     rw (is_err c.from_residual.result _ c.from_residual.ensures.1) (λ names us h.
     let all = subst (λ ys. AreItems (IsReading m x) us (items_view ys)) (sym c.deref-item-items.ensures.value) h in
-    let k = item_at (IsReading m x) us xs c.loop-i.i c.item-item.result all (omega arith) c.item-item.is in
+    let k = item_at (IsReading m x) us c.deref-item-items.result.now c.loop-i.i c.item-item.result all (omega arith) c.item-item.is in
     c.in_err-value.ensures names k.0 k.1)
 
 pub read_items-returns-in_err-push : goal.read_items-returns-in_err-push
 read_items-returns-in_err-push t c =
-    let x = layout_of c.args.element.now in
     rw (is_err c.from_residual-in_err-push.result _ c.from_residual-in_err-push.ensures.1) (λ names u r. c.in_err-push.ensures.only_out_of_memory)
 
 pub read_items-loop-i-preserved : goal.read_items-loop-i-preserved
@@ -305,37 +301,32 @@ read_tuple-returns-then-is_empty t c =
 
 pub read_tuple-returns-in_default : goal.read_tuple-returns-in_default
 read_tuple-returns-in_default t c =
-    let d = view c.args.json.now in
     let ss = c.args.parts.now.items in
     let size : vec_len c.args.parts.now ≡ length ss = grind (arith, common_steps) in
     let full : length ss ≡ 0 → ⊥ = λ e. true≢false (sym (ap (λ n. n == 0) e) ∙ ap (λ n. n == 0) (sym size) ∙ sym c.is_empty.ensures ∙ c.if-is_empty.false) in
     λ names u r.
-    let k = tuple_form ss u d full r in
+    let k = tuple_form ss u (view c.args.json.now) full r in
     absurd (c.in_default.ensures.none k.items k.form (k.long ∙ sym size ∙ sym c.len.ensures))
 
 pub read_tuple-returns-in_err-values : goal.read_tuple-returns-in_err-values
 read_tuple-returns-in_err-values t c =
-    let d = view c.args.json.now in
     let ss = c.args.parts.now.items in
-    let js = c.in-Some.items.now.items in
     let size : vec_len c.args.parts.now ≡ length ss = grind (arith, common_steps) in
     let full : length ss ≡ 0 → ⊥ = λ e. true≢false (sym (ap (λ n. n == 0) e) ∙ ap (λ n. n == 0) (sym size) ∙ sym c.is_empty.ensures ∙ c.if-is_empty.false) in
     rw (is_err c.from_residual.result _ c.from_residual.ensures.1) (λ names u r.
-    let k = tuple_form ss u d full r in
-    let same = same_items (items_view js) k.items (sym c.in-Some.ensures.found.0 ∙ k.form) in
+    let k = tuple_form ss u (view c.args.json.now) full r in
+    let same = same_items (items_view c.in-Some.items.now.items) k.items (sym c.in-Some.ensures.found.0 ∙ k.form) in
     c.in_err-values.ensures names k.parts (subst (ArePartsReading (types_of ss) (layouts_of ss) k.parts) same k.read))
 
 pub read_tuple-returns : goal.read_tuple-returns
 read_tuple-returns t c =
-    let d = view c.args.json.now in
     let ss = c.args.parts.now.items in
-    let js = c.in-Some.items.now.items in
     let v = c.in_ok-values.values in
     let ts = trees (map tree v.items) in
     let seen : tree (Group v) ≡ nodes.Group ts = search (rules, the_lemmas) in
     let size : vec_len c.args.parts.now ≡ length ss = grind (arith, common_steps) in
     let full : length ss ≡ 0 → ⊥ = λ e. true≢false (sym (ap (λ n. n == 0) e) ∙ ap (λ n. n == 0) (sym size) ∙ sym c.is_empty.ensures ∙ c.if-is_empty.false) in
-    rw (seen, c.in-Some.ensures.found.0) (tuple_only ss ts (items_view js) full c.in_ok-values.ensures)
+    rw (seen, c.in-Some.ensures.found.0) (tuple_only ss ts (items_view c.in-Some.items.now.items) full c.in_ok-values.ensures)
 
 pub read_parts-loop-i-init : goal.read_parts-loop-i-init
 read_parts-loop-i-init t c = rw c.new-values.ensures.items tt
@@ -343,13 +334,12 @@ read_parts-loop-i-init t c = rw c.new-values.ensures.items tt
 pub read_parts-returns-in_err-value : goal.read_parts-returns-in_err-value
 read_parts-returns-in_err-value t c =
     let ss = c.args.parts.now.items in
-    let xs = c.deref-part-items.result.now in
     let js = c.args.items.now.items in
     let i = c.loop-i.i in
     let s = c.part-item.result in
     let j = c.index.result.now in
     let whole = c.deref-part-items.ensures.value in
-    let inside : i < length xs = omega arith in
+    let inside : i < length c.deref-part-items.result.now = omega arith in
     let low : i < length ss = rw whole at inside in
     let here : s ≡ get_or ss i s = rw whole at c.part-item.is in
     let there : j ≡ get_or js i j = grind (arith, common_steps) in
@@ -359,7 +349,6 @@ read_parts-returns-in_err-value t c =
 
 pub read_parts-returns-in_err-push : goal.read_parts-returns-in_err-push
 read_parts-returns-in_err-push t c =
-    let ss = c.args.parts.now.items in
     rw (is_err c.from_residual-in_err-push.result _ c.from_residual-in_err-push.ensures.1) (λ names u r. c.in_err-push.ensures.only_out_of_memory)
 
 pub read_parts-loop-i-preserved : goal.read_parts-loop-i-preserved
@@ -396,10 +385,8 @@ read_struct-returns-then-not-has_members t c =
 
 pub read_struct-returns-in_err-values : goal.read_struct-returns-in_err-values
 read_struct-returns-in_err-values t c =
-    let ns = c.args.fields.now.items in
-    let d = view c.args.json.now in
     rw (is_err c.from_residual.result _ c.from_residual.ensures.1) (λ names u r.
-    let k = struct_form ns u d r in c.in_err-values.ensures names k.0 k.3)
+    let k = struct_form c.args.fields.now.items u (view c.args.json.now) r in c.in_err-values.ensures names k.0 k.3)
 
 pub read_struct-returns : goal.read_struct-returns
 read_struct-returns t c =
@@ -417,19 +404,17 @@ read_fields-loop-field-init t c = rw c.new-values.ensures.items tt
 pub read_fields-returns-in_err-value : goal.read_fields-returns-in_err-value
 read_fields-returns-in_err-value t c =
     let ns = c.args.fields.now.items in
-    let d = view c.args.json.now in
     let i = c.loop-field.field-index in
     let n = c.field-item.result in
     let whole = c.deref-field-items.ensures.value in
     let low : i < length ns = rw whole at c.loop-field-test.true in
     let here : n ≡ get_or ns i n = rw whole at c.field-item.is in
     rw (is_err c.from_residual.result _ c.from_residual.ensures.1) (λ names us r.
-    let k = field_at ns us d i n r low here in
+    let k = field_at ns us (view c.args.json.now) i n r low here in
     (rw c.deref.ensures at c.in_err-value.ensures) (named_at ns i n low here names).1 k.0 k.1)
 
 pub read_fields-returns-in_err-push : goal.read_fields-returns-in_err-push
 read_fields-returns-in_err-push t c =
-    let ns = c.args.fields.now.items in
     rw (is_err c.from_residual-in_err-push.result _ c.from_residual-in_err-push.ensures.1) (λ names u r. c.in_err-push.ensures.only_out_of_memory)
 
 pub read_fields-loop-field-preserved : goal.read_fields-loop-field-preserved
