@@ -134,24 +134,21 @@ held_answer m x d e r may is h =
 pub items_more : (R : Reading) (vs : List Value) (js : List json.Value) (v : Value) (j : json.Value) → AreItems R (trees (map tree vs)) (items_view js) → R (tree v) (view j)
     → AreItems R (trees (map tree (vs ++ v ∷ []))) (items_view (js ++ j ∷ []))
 items_more R [] [] v j h r = (r, tt)
-items_more R [] (k ∷ js) v j h r = absurd h
-items_more R (u ∷ us) [] v j h r = absurd h
 items_more R (u ∷ us) (k ∷ js) v j h r = (h.0, items_more R us js v j h.1 r)
+items_more R vs js v j h r = absurd h
 
 -- Items each of which is read as one tree alone are read as these trees alone.
 items_held : (D : Type 0) (R : Reading) (ts : Trees) (ds : Items) → AreItems (IsOnly D R) ts ds → AreItems R ts ds
 items_held D R NoTrees no_items h = tt
-items_held D R NoTrees (item d ds) h = absurd h
-items_held D R (Then t ts) no_items h = absurd h
 items_held D R (Then t ts) (item d ds) h = (h.0.0, items_held D R ts ds h.1)
+items_held D R ts ds h = absurd h
 
 items_one : (D : Type 0) (R : Reading) (ts us : Trees) (ds : Items) → AreItems (IsOnly D R) ts ds → D → AreItems R us ds → us ≡ ts
 items_one D R NoTrees NoTrees no_items h names r = refl
 items_one D R NoTrees (Then u us) no_items h names r = absurd r
-items_one D R (Then t ts) us no_items h names r = absurd h
-items_one D R NoTrees us (item d ds) h names r = absurd h
 items_one D R (Then t ts) NoTrees (item d ds) h names r = absurd r
 items_one D R (Then t ts) (Then u us) (item d ds) h names r = ap₂ Then (h.0.1 names u r.0) (items_one D R ts us ds h.1 names r.1)
+items_one D R ts us ds h names r = absurd h
 
 -- If each item is the only one that its JSON denotes, so are all items together.
 pub items_only : (D : Type 0) (R : Reading) (ts : Trees) (ds : Items) → AreItems (IsOnly D R) ts ds → IsOnly D (AreItems R) ts ds
@@ -167,28 +164,24 @@ item_at R (Then u us) (k ∷ js) (suc i) j h low here = item_at R us js i j h.1 
 module _ (P : Tree → Type 0) (R : Reading) where
   items_reads : (ts : Trees) (ds : Items) → AreItems (IsBoth P R) ts ds → Each P ts
   items_reads NoTrees no_items h = tt
-  items_reads NoTrees (item d ds) h = absurd h
-  items_reads (Then t ts) no_items h = absurd h
   items_reads (Then t ts) (item d ds) h = (h.0.0, items_reads ts ds h.1)
+  items_reads ts ds h = absurd h
 
   items_spelled : (ts : Trees) (ds : Items) → AreItems (IsBoth P R) ts ds → AreItems R ts ds
   items_spelled NoTrees no_items h = tt
-  items_spelled NoTrees (item d ds) h = absurd h
-  items_spelled (Then t ts) no_items h = absurd h
   items_spelled (Then t ts) (item d ds) h = (h.0.1, items_spelled ts ds h.1)
+  items_spelled ts ds h = absurd h
 
   items_both : (ts : Trees) (ds : Items) → Each P ts → AreItems R ts ds → AreItems (IsBoth P R) ts ds
   items_both NoTrees no_items each h = tt
-  items_both NoTrees (item d ds) each h = absurd h
-  items_both (Then t ts) no_items each h = absurd h
   items_both (Then t ts) (item d ds) each h = ((each.0, h.0), items_both ts ds each.1 h.1)
+  items_both ts ds each h = absurd h
 
 -- There is one tree for each item.
 pub items_count : (R : Reading) (ts : Trees) (ds : Items) → AreItems R ts ds → count ts ≡ items_len ds
 items_count R NoTrees no_items h = refl
-items_count R NoTrees (item d ds) h = absurd h
-items_count R (Then t ts) no_items h = absurd h
 items_count R (Then t ts) (item d ds) h = ap suc (items_count R ts ds h.1)
+items_count R ts ds h = absurd h
 
 -- What is read as a list or as an array, of which the trees of P are the elements and R relates them to JSON.
 module _ (P : Tree → Type 0) (R : Reading) where

@@ -37,29 +37,21 @@ ArePartsOnly ss vs js = ⊥
 pub parts_more : (ss : List Schema) (vs : List Value) (js : List json.Value) (s : Schema) (v : Value) (j : json.Value) → ArePartsOnly ss vs js
     → IsOnly (HasDistinctNames (layout_of s)) (IsReading (type_of s) (layout_of s)) (tree v) (view j) → ArePartsOnly (ss ++ s ∷ []) (vs ++ v ∷ []) (js ++ j ∷ [])
 parts_more [] [] [] s v j h one = (one, tt)
-parts_more [] [] (k ∷ js) s v j h one = absurd h
-parts_more [] (u ∷ us) js s v j h one = absurd h
-parts_more (r ∷ ss) [] js s v j h one = absurd h
-parts_more (r ∷ ss) (u ∷ us) [] s v j h one = absurd h
 parts_more (r ∷ ss) (u ∷ us) (k ∷ js) s v j h one = (h.0, parts_more ss us js s v j h.1 one)
+parts_more ss vs js s v j h one = absurd h
 
 parts_read : (ss : List Schema) (vs : List Value) (js : List json.Value) → ArePartsOnly ss vs js → ArePartsReading (types_of ss) (layouts_of ss) (trees (map tree vs)) (items_view js)
 parts_read [] [] [] h = (refl, tt)
-parts_read [] [] (j ∷ js) h = absurd h
-parts_read [] (v ∷ vs) js h = absurd h
-parts_read (s ∷ ss) [] js h = absurd h
-parts_read (s ∷ ss) (v ∷ vs) [] h = absurd h
 parts_read (s ∷ ss) (v ∷ vs) (j ∷ js) h = let k = parts_read ss vs js h.1 in ((tree v, trees (map tree vs), refl, h.0.0.0, k.0), (h.0.0.1, k.1))
+parts_read ss vs js h = absurd h
 
 parts_one : (ss : List Schema) (vs : List Value) (js : List json.Value) (us : Trees) → ArePartsOnly ss vs js → HaveDistinctNames (layouts_of ss)
     → reads_all (types_of ss) us → AreParts (layouts_of ss) us (items_view js) → us ≡ trees (map tree vs)
 parts_one [] [] js us h names r spelled = r
-parts_one [] (v ∷ vs) js us h names r spelled = absurd h
-parts_one (s ∷ ss) [] js us h names r spelled = absurd h
-parts_one (s ∷ ss) (v ∷ vs) [] us h names r spelled = absurd h
 parts_one (s ∷ ss) (v ∷ vs) (j ∷ js) us h names (u, more, is, first, rest) spelled =
     let all = subst (λ z. AreParts (layouts_of (s ∷ ss)) z (items_view (j ∷ js))) is spelled in
     is ∙ ap₂ Then (h.0.1 names.0 u (first, all.0)) (parts_one ss vs js more h.1 names.1 rest all.1)
+parts_one ss vs js us h names r spelled = absurd h
 
 -- The parts that were read are the only ones that the items denote.
 pub parts_only : (ss : List Schema) (vs : List Value) (js : List json.Value) → ArePartsOnly ss vs js
@@ -81,11 +73,8 @@ part_at (z ∷ ss) us (k ∷ js) (suc i) s j ((u, more, is, first, rest), h) low
 -- The numbers of items and parts are equal.
 parts_count : (ss : List Schema) (us : Trees) (ds : Items) → AreParts (layouts_of ss) us ds → items_len ds ≡ length ss
 parts_count [] NoTrees no_items h = refl
-parts_count [] NoTrees (item d ds) h = absurd h
-parts_count [] (Then u us) ds h = absurd h
-parts_count (s ∷ ss) NoTrees ds h = absurd h
-parts_count (s ∷ ss) (Then u us) no_items h = absurd h
 parts_count (s ∷ ss) (Then u us) (item d ds) h = ap suc (parts_count ss us ds h.1)
+parts_count ss us ds h = absurd h
 
 -- ---- tuples
 
@@ -164,24 +153,21 @@ AreFieldsOnly ns vs d = ⊥
 pub fields_more : (ns : List (Named Schema)) (vs : List Value) (n : Named Schema) (v : Value) (d : Data) → AreFieldsOnly ns vs d
     → IsOnly (HasDistinctNames (layout_of n.content)) (IsMemberReading (string_bytes n.name) (type_of n.content) (layout_of n.content)) (tree v) d → AreFieldsOnly (ns ++ n ∷ []) (vs ++ v ∷ []) d
 fields_more [] [] n v d h one = (one, tt)
-fields_more [] (u ∷ us) n v d h one = absurd h
-fields_more (m ∷ ns) [] n v d h one = absurd h
 fields_more (m ∷ ns) (u ∷ us) n v d h one = (h.0, fields_more ns us n v d h.1 one)
+fields_more ns vs n v d h one = absurd h
 
 fields_read : (ns : List (Named Schema)) (vs : List Value) (d : Data) → AreFieldsOnly ns vs d → AreFieldsReading (types_of (contents ns)) (fields_of ns) (trees (map tree vs)) d
 fields_read [] [] d h = (refl, tt)
-fields_read [] (v ∷ vs) d h = absurd h
-fields_read (n ∷ ns) [] d h = absurd h
 fields_read (n ∷ ns) (v ∷ vs) d h = let k = fields_read ns vs d h.1 in ((tree v, trees (map tree vs), refl, h.0.0.2.0, k.0), ((h.0.0.0, h.0.0.1, h.0.0.2.1), k.1))
+fields_read ns vs d h = absurd h
 
 fields_one : (ns : List (Named Schema)) (vs : List Value) (us : Trees) (d : Data) → AreFieldsOnly ns vs d → AreNamed (fields_of ns)
     → reads_all (types_of (contents ns)) us → AreFields (fields_of ns) us d → us ≡ trees (map tree vs)
 fields_one [] [] us d h names r spelled = r
-fields_one [] (v ∷ vs) us d h names r spelled = absurd h
-fields_one (n ∷ ns) [] us d h names r spelled = absurd h
 fields_one (n ∷ ns) (v ∷ vs) us d h names (u, more, is, first, rest) spelled =
     let all = subst (λ z. AreFields (fields_of (n ∷ ns)) z d) is spelled in
     is ∙ ap₂ Then (h.0.1 names.1 u (all.0.0, all.0.1, (first, all.0.2))) (fields_one ns vs more d h.1 names.2 rest all.1)
+fields_one ns vs us d h names r spelled = absurd h
 
 -- The fields that were read are the only ones that the members denote.
 pub fields_only : (ns : List (Named Schema)) (vs : List Value) (d : Data) → AreFieldsOnly ns vs d
