@@ -78,13 +78,12 @@ units_of f s (suc m) (negsuc n) h =
 
 -- From one fraction to another of the same size.
 rescale : (x : Float) (s : Bool) (a c b d : ℕ) → 0 < c → b * c ≡ a * d → HasValue x s a c → HasValue x s b d
-rescale nan s a c b d above same h = h
-rescale (inf t) s a c b d above same h = h
 rescale (fin t m e) s a c b d above same h = (
   h.0,
   eq_of_mul-eq-mul_right c above (m * up e * d) (b * down e)
       (mul_right_comm (m * up e) d c ∙ ap (λ (x : ℕ). x * d) h.1 ∙ mul_right_comm a (down e) d ∙ ap (λ (x : ℕ). x * down e) (sym same) ∙ mul_right_comm b c (down e)),
 )
+rescale x s a c b d above same h = h
 
 -- Rounding changes no float of the format.
 pub rounds_to_itself : (f : Format) (x : Float) → T (fits f x) → round_to_format f x ≡ x

@@ -110,10 +110,8 @@ tuple_only (s ∷ ss) ts ds full (h, one) = (
 
 -- Two items are a pair.
 pub two_items : (js : List json.Value) (j k : json.Value) → length js ≡ 2 → j ≡ get_or js 0 j → k ≡ get_or js 1 k → values.array (items_view js) ≡ pair (view j) (view k)
-two_items [] j k long first second = absurd (omega (arith, long))
-two_items (a ∷ []) j k long first second = absurd (omega (arith, long))
 two_items (a ∷ b ∷ []) j k long first second = ap₂ (λ x y. pair (view x) (view y)) (sym first) (sym second)
-two_items (a ∷ b ∷ x ∷ js) j k long first second = absurd (omega (arith, long))
+two_items js j k long first second = absurd (omega (arith, long))
 
 same_pair : (a b e f : Data) → pair a b ≡ pair e f → (a ≡ e) × (b ≡ f)
 same_pair a b e f is = (cc is, cc is)
