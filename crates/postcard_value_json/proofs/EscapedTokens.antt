@@ -101,17 +101,8 @@ number_low s is =
 -- After a value stands a comma, a closing bracket or nothing.
 value_ends : (ts : List Token) → (ends_word (print_from true ts) ≡ true) × (ends_word (bytes_of (print_from true ts)) ≡ true)
 unfolding print_from bytes_after
-value_ends [] = (refl, refl)
 value_ends (begin_object ∷ ts) = (refl, refl)
-value_ends (end_object ∷ ts) = (refl, refl)
-value_ends (begin_array ∷ ts) = (refl, refl)
-value_ends (end_array ∷ ts) = (refl, refl)
-value_ends (key s ∷ ts) = (refl, refl)
-value_ends (string s ∷ ts) = (refl, refl)
-value_ends (number s ∷ ts) = (refl, refl)
-value_ends (boolean b ∷ ts) = (refl, refl)
-value_ends (null ∷ ts) = (refl, refl)
-value_ends (bad ∷ ts) = (refl, refl)
+value_ends ts = (refl, refl)
 
 -- The text has the same tokens as with escapes.
 abbrev Same : List ℕ → Type 0
@@ -127,10 +118,6 @@ same_quoted s bs same =
 
 same_token : (t : Token) (bs : List ℕ) → IsPrintable t → (ends t ≡ true → (ends_word bs ≡ true) × (ends_word (bytes_of bs) ≡ true)) → Same bs → Same (token_text t ++ bs)
 unfolding lex word bytes_after
-same_token begin_object bs h ended same = ap (λ ls. token begin_object ∷ ls) same
-same_token end_object bs h ended same = ap (λ ls. token end_object ∷ ls) same
-same_token begin_array bs h ended same = ap (λ ls. token begin_array ∷ ls) same
-same_token end_array bs h ended same = ap (λ ls. token end_array ∷ ls) same
 same_token (key s) bs h ended same = subst Same (sym (append_assoc (quoted s) (58 ∷ []) bs)) (same_quoted s (58 ∷ bs) (ap (λ ls. Lexeme.colon ∷ ls) same))
 same_token (string s) bs h ended same = same_quoted s bs same
 same_token (number s) bs h ended same =
@@ -146,6 +133,7 @@ same_token null bs h ended same =
     let e = ended refl in
     ap₂ (λ b ls. token (cond b null bad) ∷ ls) (e.1 ∙ sym e.0) (in_word-ended (bytes_of bs) e.1 ∙ same ∙ sym (in_word-ended bs e.0))
 same_token bad bs h ended same = absurd h
+same_token t bs h ended same = ap (λ ls. token t ∷ ls) same
 
 same_separated : (b : Bool) (bs : List ℕ) → Same bs → Same (cond b (44 ∷ []) [] ++ bs)
 unfolding lex bytes_after

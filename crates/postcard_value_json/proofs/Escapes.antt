@@ -231,22 +231,24 @@ after_lead x out kept reads passes = record {
   same = refl;
 }
 
--- The step at a byte that has a short escape.
-short : (f : Bool) (x letter : ℕ) → ((bs : List ℕ) → bytes_after false (escape_byte x ++ bs) ≡ 92 ∷ letter ∷ bytes_of bs) → ((bs : List ℕ) → bytes_after true (escape_byte x ++ bs) ≡ 194 ∷ 92 ∷ letter ∷ bytes_of bs)
-    → ((bs : List ℕ) → content plain (92 ∷ letter ∷ bs) ≡ prepend (x ∷ []) (content plain bs)) → ((bs : List ℕ) → lex in_string (92 ∷ letter ∷ bs) ≡ lex in_string bs) → Step f x
-short false x letter kept lead reads passes = record { after = false; out = 92 ∷ letter ∷ []; held = x ∷ []; is = kept; read = reads; lexed = passes; same = refl }
-short true x letter kept lead reads passes = after_lead x (92 ∷ letter ∷ []) lead reads passes
+-- The step at a byte that is printed as ASCII.
+ascii_step : (f : Bool) (x : ℕ) (out : List ℕ) → ((bs : List ℕ) → bytes_after false (escape_byte x ++ bs) ≡ out ++ bytes_of bs)
+    → ((bs : List ℕ) → bytes_after true (escape_byte x ++ bs) ≡ 194 ∷ (out ++ bytes_of bs)) → ((bs : List ℕ) → content plain (out ++ bs) ≡ prepend (x ∷ []) (content plain bs))
+    → ((bs : List ℕ) → lex in_string (out ++ bs) ≡ lex in_string bs) → Step f x
+ascii_step false x out kept lead reads passes = record { after = false; out = out; held = x ∷ []; is = kept; read = reads; lexed = passes; same = refl }
+ascii_step true x out kept lead reads passes = after_lead x out lead reads passes
 
+-- The steps at the bytes that have a short escape.
 shorts : (f : Bool) → Step f 34 × Step f 92 × Step f 8 × Step f 12 × Step f 10 × Step f 13 × Step f 9
 unfolding bytes_after content lex short_escape escape_byte
 shorts f = (
-  short f 34 34 (λ bs. refl) (λ bs. refl) (λ bs. refl) (λ bs. refl),
-  short f 92 92 (λ bs. refl) (λ bs. refl) (λ bs. refl) (λ bs. refl),
-  short f 8 98 (λ bs. refl) (λ bs. refl) (λ bs. refl) (λ bs. refl),
-  short f 12 102 (λ bs. refl) (λ bs. refl) (λ bs. refl) (λ bs. refl),
-  short f 10 110 (λ bs. refl) (λ bs. refl) (λ bs. refl) (λ bs. refl),
-  short f 13 114 (λ bs. refl) (λ bs. refl) (λ bs. refl) (λ bs. refl),
-  short f 9 116 (λ bs. refl) (λ bs. refl) (λ bs. refl) (λ bs. refl),
+  ascii_step f 34 (92 ∷ 34 ∷ []) (λ bs. refl) (λ bs. refl) (λ bs. refl) (λ bs. refl),
+  ascii_step f 92 (92 ∷ 92 ∷ []) (λ bs. refl) (λ bs. refl) (λ bs. refl) (λ bs. refl),
+  ascii_step f 8 (92 ∷ 98 ∷ []) (λ bs. refl) (λ bs. refl) (λ bs. refl) (λ bs. refl),
+  ascii_step f 12 (92 ∷ 102 ∷ []) (λ bs. refl) (λ bs. refl) (λ bs. refl) (λ bs. refl),
+  ascii_step f 10 (92 ∷ 110 ∷ []) (λ bs. refl) (λ bs. refl) (λ bs. refl) (λ bs. refl),
+  ascii_step f 13 (92 ∷ 114 ∷ []) (λ bs. refl) (λ bs. refl) (λ bs. refl) (λ bs. refl),
+  ascii_step f 9 (92 ∷ 116 ∷ []) (λ bs. refl) (λ bs. refl) (λ bs. refl) (λ bs. refl),
 )
 
 unit_byte : (x : ℕ) → x < 32 → x ≢ 8 → x ≢ 12 → x ≢ 10 → x ≢ 13 → x ≢ 9 → escape_byte x ≡ unit_escape x
@@ -255,17 +257,9 @@ unit_byte x low a b c d e = rw (ne_eqb x 34 (λ i. omega arith), ne_eqb x 92 (λ
 
 unit_step : (f : Bool) (x : ℕ) → x < 32 → escape_byte x ≡ unit_escape x → Step f x
 unfolding bytes_after
-unit_step false x low e = record {
-  after = false;
-  out = unit_escape x;
-  held = x ∷ [];
-  is = λ bs. ap (λ u. bytes_of (u ++ bs)) e ∙ unit_kept x bs (omega (arith, low));
-  read = λ bs. unit_read x bs (omega (arith, low)) ∙ ap (λ u. prepend u (content plain bs)) (encode_ascii x (omega (arith, low)));
-  lexed = λ bs. unit_lexed x bs (omega (arith, low));
-  same = refl;
-}
-unit_step true x low e =
-    after_lead x (unit_escape x) (λ bs. ap (λ u. bytes_after true (u ++ bs)) e ∙ ap (λ s. 194 ∷ s) (unit_kept x bs (omega (arith, low))))
+unit_step f x low e =
+    ascii_step f x (unit_escape x) (λ bs. ap (λ u. bytes_of (u ++ bs)) e ∙ unit_kept x bs (omega (arith, low)))
+    (λ bs. ap (λ u. bytes_after true (u ++ bs)) e ∙ ap (λ s. 194 ∷ s) (unit_kept x bs (omega (arith, low))))
     (λ bs. unit_read x bs (omega (arith, low)) ∙ ap (λ u. prepend u (content plain bs)) (encode_ascii x (omega (arith, low)))) (λ bs. unit_lexed x bs (omega (arith, low)))
 
 plain_read : (x : ℕ) (bs : List ℕ) → x ≢ 34 → x ≢ 92 → 32 ≤ x → content plain (x ∷ bs) ≡ prepend (x ∷ []) (content plain bs)
@@ -284,23 +278,25 @@ delete_step : Step false 127
 unfolding bytes_after escape_byte encode
 delete_step = record { after = false; out = unit_escape 127; held = 127 ∷ []; is = λ bs. refl; read = λ bs. unit_read 127 bs (omega arith); lexed = λ bs. unit_lexed 127 bs (omega arith); same = refl }
 
+-- What holds at y holds at x if they are equal. Otherwise it has to be shown with that.
+at_byte : (P : ℕ → Type 0) (x y : ℕ) → P y → (x ≢ y → P x) → P x
+at_byte P x y here unequal = elim (cases_eq x y) [
+  | inl e ↦ subst P (sym e) here
+  | inr apart ↦ unequal apart
+]
+
+-- The step at a byte that isn't escaped in a string. After 194, one of the bytes 128 to 159 makes a control character.
 plain_step : (f : Bool) (x : ℕ) → x ≢ 34 → x ≢ 92 → 32 ≤ x → Step f x
 unfolding bytes_after
-plain_step false x q b l = elim (cases_eq x 194) [
-  | inl e ↦ subst (Step false) (sym e) lead_step
-  | inr n ↦ elim (cases_eq x 127) [
-    | inl e ↦ subst (Step false) (sym e) delete_step
-    | inr m ↦ record {
-      after = false;
-      out = x ∷ [];
-      held = x ∷ [];
-      is = λ bs. ap (λ u. bytes_of (u ++ bs)) (escape_byte_plain x q b l) ∙ one_byte x bs n m;
-      read = λ bs. plain_read x bs q b l;
-      lexed = λ bs. within x bs q b;
-      same = refl;
-    }
-  ]
-]
+plain_step false x q b l = at_byte (Step false) x 194 lead_step (λ n. at_byte (Step false) x 127 delete_step (λ m. record {
+  after = false;
+  out = x ∷ [];
+  held = x ∷ [];
+  is = λ bs. ap (λ u. bytes_of (u ++ bs)) (escape_byte_plain x q b l) ∙ one_byte x bs n m;
+  read = λ bs. plain_read x bs q b l;
+  lexed = λ bs. within x bs q b;
+  same = refl;
+}))
 plain_step true x q b l =
     let e = escape_byte_plain x q b l in
     let passed : nat_le 128 x && nat_lt x 160 ≡ false → Step true x = λ no.
@@ -324,29 +320,11 @@ plain_step true x q b l =
 step : (f : Bool) (x : ℕ) → Step f x
 step f x =
     let (quote, backslash, b, ff, n, r, t) = shorts f in
-    let at : (y : ℕ) → x ≡ y → Step f y → Step f x = λ y e s. subst (Step f) (sym e) s in
-    elim (cases_eq x 34) [
-      | inl e ↦ at 34 e quote
-      | inr no_34 ↦ elim (cases_eq x 92) [
-        | inl e ↦ at 92 e backslash
-        | inr no_92 ↦ elim (cases_lt x 32) [
-          | inr l ↦ plain_step f x no_34 no_92 l
-          | inl low ↦ elim (cases_eq x 8) [
-            | inl e ↦ at 8 e b
-            | inr no_8 ↦ elim (cases_eq x 12) [
-              | inl e ↦ at 12 e ff
-              | inr no_12 ↦ elim (cases_eq x 10) [
-                | inl e ↦ at 10 e n
-                | inr no_10 ↦ elim (cases_eq x 13) [
-                  | inl e ↦ at 13 e r
-                  | inr no_13 ↦ elim (cases_eq x 9) [ inl e ↦ at 9 e t | inr no_9 ↦ unit_step f x low (unit_byte x low no_8 no_12 no_10 no_13 no_9) ]
-                ]
-              ]
-            ]
-          ]
-        ]
-      ]
-    ]
+    let at = at_byte (Step f) x in
+    at 34 quote (λ no_34. at 92 backslash (λ no_92. elim (cases_lt x 32) [
+      | inr l ↦ plain_step f x no_34 no_92 l
+      | inl low ↦ at 8 b (λ no_8. at 12 ff (λ no_12. at 10 n (λ no_10. at 13 r (λ no_13. at 9 t (λ no_9. unit_step f x low (unit_byte x low no_8 no_12 no_10 no_13 no_9))))))
+    ]))
 
 -- The content of an escaped string is that of the string.
 pub string_read : (f : Bool) (s bs : List ℕ) → content plain (bytes_after f (escape s ++ 34 ∷ bs)) ≡ Some (before f ++ s)

@@ -1,5 +1,5 @@
 -- Lemmas on the JSON of values in a row: lists, maps, tuples and structs.
-use Rattle.std.proofs.Common.{◌≡◌, ℕ, zero, suc, ◌+◌, ◌<◌, true, false, List, [], ◌∷◌, ◌++◌, map, length, take, get_or, Option, Some, None, option_map, Vec, Global, string_bytes, refl, sym, ap, ap₂, ◌∙◌, add-one, arith}
+use Rattle.std.proofs.Common.{◌≡◌, ℕ, zero, suc, ◌+◌, ◌<◌, ◌≤◌, true, false, List, [], ◌∷◌, ◌++◌, map, length, take, get_or, Option, Some, None, option_map, Vec, Global, string_bytes, refl, sym, ap, ap₂, ◌∙◌, add-one, take_all, arith}
 use Rattle.std.specs.Prelude.{option_and_then, is_some}
 use Rattle.std.specs.Bool.{◌==◌}
 use Rattle.std.proofs.Math.Dec.{eqb-suc-zero}
@@ -75,9 +75,10 @@ list_more p vs i v js j low here so found =
     rw (add-one i) (all_more p tree vs i v (map view js) (view j) low here so (sym found) ∙ ap Some (sym (map-append view js (j ∷ []))))
 
 -- The JSON of all values is the array.
-pub list_whole : (p : Writer) (us vs : List Value) (a : Vec json.Value Global) → us ≡ vs → all_json p (trees (map tree us)) ≡ Some (map view a.items)
+pub list_whole : (p : Writer) (us vs : List Value) (i : ℕ) (a : Vec json.Value Global) → length us ≤ i → us ≡ vs → all_json p (trees (map tree (take i us))) ≡ Some (map view a.items)
     → Some (view (json.Array a)) ≡ items_json p (trees (map tree vs))
-list_whole p us vs a same so = ap Some (view-Array a) ∙ sym (ap (option_map row) (ap (λ ws. all_json p (trees (map tree ws))) (sym same) ∙ so))
+list_whole p us vs i a all same so =
+    ap Some (view-Array a) ∙ sym (ap (option_map row) (ap (λ ws. all_json p (trees (map tree ws))) (sym (take_all i us all ∙ same)) ∙ so))
 
 -- An entry of a map is an array of two.
 pub entry_whole : (key content : Writer) (vs : List Value) (u v : Value) (j k : json.Value) (a : Vec json.Value Global) → length vs ≡ 2 → u ≡ get_or vs 0 u → v ≡ get_or vs 1 v
@@ -104,11 +105,11 @@ row_none [] e = refl
 row_none (j ∷ js) e = cc (sym (eqb-suc-zero (length js)) ∙ e)
 
 -- The JSON of all parts in a row is that of the tuple.
-pub parts_whole : (ss rs : List Schema) (us vs : List Value) (ds : List Data) → ss ≡ rs → us ≡ vs → each_json (map writer_of ss) (trees (map tree us)) ≡ Some ds
-    → parts_json (writers (layouts_of rs)) (trees (map tree vs)) ≡ Some (parts_row ds)
-parts_whole ss rs us vs ds left same so =
-    ap (λ ps. parts_json ps (trees (map tree vs))) (writers_map rs)
-    ∙ ap (option_map parts_row) (ap₂ (λ a b. each_json (map writer_of a) (trees (map tree b))) (sym left) (sym same) ∙ so)
+pub parts_whole : (ss : List Schema) (us vs : List Value) (i : ℕ) (ds : List Data) → length ss ≤ i → length us ≤ i → us ≡ vs
+    → each_json (map writer_of (take i ss)) (trees (map tree (take i us))) ≡ Some ds → parts_json (writers (layouts_of ss)) (trees (map tree vs)) ≡ Some (parts_row ds)
+parts_whole ss us vs i ds few all same so =
+    ap (λ ps. parts_json ps (trees (map tree vs))) (writers_map ss)
+    ∙ ap (option_map parts_row) (ap₂ (λ a b. each_json (map writer_of a) (trees (map tree b))) (sym (take_all i ss few)) (sym (take_all i us all ∙ same)) ∙ so)
 
 -- ---- structs
 
@@ -156,11 +157,11 @@ fields_map [] = refl
 fields_map (n ∷ ns) = ap (λ fs. field_writer n ∷ fs) (fields_map ns)
 
 -- The members of all fields are those of the struct.
-pub fields_whole : (ms ns : List (Named Schema)) (us vs : List Value) (done : Members) → ms ≡ ns → us ≡ vs → members_json (map field_writer ms) (trees (map tree us)) values.no_members ≡ Some done
-    → fields_json (field_writers (fields_of ns)) (trees (map tree vs)) ≡ Some (values.object done)
-fields_whole ms ns us vs done left same so =
+pub fields_whole : (ns : List (Named Schema)) (us vs : List Value) (i : ℕ) (done : Members) → length ns ≤ i → length us ≤ i → us ≡ vs
+    → members_json (map field_writer (take i ns)) (trees (map tree (take i us))) values.no_members ≡ Some done → fields_json (field_writers (fields_of ns)) (trees (map tree vs)) ≡ Some (values.object done)
+fields_whole ns us vs i done few all same so =
     ap (λ fs. fields_json fs (trees (map tree vs))) (fields_map ns)
-    ∙ ap (option_map values.object) (ap₂ (λ a b. members_json (map field_writer a) (trees (map tree b)) values.no_members) (sym left) (sym same) ∙ so)
+    ∙ ap (option_map values.object) (ap₂ (λ a b. members_json (map field_writer a) (trees (map tree b)) values.no_members) (sym (take_all i ns few)) (sym (take_all i us all ∙ same)) ∙ so)
 
 -- A member whose name is new is added.
 pub not_there : (n : List ℕ) (d : Data) (ms : Members) → is_some (get_member n ms) ≡ false → add_member n d ms ≡ Some (put n d ms)

@@ -1,11 +1,12 @@
 -- Lemmas on what is read: options, lists, arrays and maps, as the only tree that the JSON denotes.
 use Rattle.std.proofs.Common.{◌≡◌, ℕ, suc, ◌<◌, ◌^◌, Bool, true, false, List, [], ◌∷◌, ◌++◌, map, length, get_or, zero, codes, refl, sym, ap, ap₂, subst, ◌∙◌, arith, ◌⊎◌, inl, inr}
 use Rattle.std.specs.Prelude.{Result, Ok, Err, IsErrAnd, MatchResult}
+use Rattle.std.proofs.lemmas.Bool.{cases_Bool}
 use Rattle.postcard_wire.specs.Tree.{Tree, Trees, NoTrees, Then, trees, count}
 use Rattle.postcard_wire.specs.Tree as nodes
 use Rattle.postcard_wire.specs.Reading.{Each, IsArray, IsSeq}
 use Rattle.postcard_schema.specs.Leaves.{is_signed}
-use Rattle.postcard_schema.specs.Meaning.{MessageType, option, reads}
+use Rattle.postcard_schema.specs.Meaning.{MessageType, entry_of, option, reads, seq}
 use Rattle.postcard_schema.specs.declared.leaf.Integer.{Integer}
 use Rattle.postcard_schema.specs.declared.leaf.Leaf.{Leaf}
 use Rattle.postcard_schema.specs.declared.leaf.Leaf.TheVariants as leaves
@@ -22,17 +23,17 @@ use Rattle.serde_json.specs.View.{view, items_view}
 use Rattle.postcard_value_json.specs.Written.{alone, can_be_null}
 use Rattle.postcard_value_json_read.specs.declared.error.JsonError.{JsonError}
 use Rattle.postcard_value_json_read.specs.declared.error.JsonError.TheVariants.{OutOfMemory}
-use Rattle.postcard_value_json_read.specs.Reading.{Reading, IsLeafJson, IsBitsJson, IsOptionJson, IsListJson, IsArrayJson, IsVariantJson, AreItems, IsJsonOf, IsJsonAt}
+use Rattle.postcard_value_json_read.specs.Reading.{Reading, IsEntryJson, IsLeafJson, IsBitsJson, IsOptionJson, IsListJson, IsArrayJson, IsVariantJson, AreItems, IsJsonOf, IsJsonAt}
 use Rattle.postcard_value_json_read.proofs.Groups.{same_items}
-use Rattle.postcard_value_json_read.specs.Accepted.{Answers, IsBoth, IsOnly, IsReading}
+use Rattle.postcard_value_json_read.proofs.Variants.{same_content}
+use Rattle.postcard_value_json_read.specs.Accepted.{Answers, IsBoth, IsEntryReading, IsHeldReading, IsOnly, IsReading}
 
 -- ---- answers
 
--- An error of a part that is passed on is one of the whole.
-pub passed : {V T J : Type 0} (D : Type 0) (see : V → T) (R : T → J → Type 0) (d : J) (r : Result V JsonError) (e : JsonError) → IsErrAnd r (λ y. y ≡ e) → (D → (u : T) → R u d → e ≡ OutOfMemory)
-    → Answers D see R d r
-passed D see R d (Ok v) e h f = absurd h
-passed D see R d (Err y) e h f = λ names u r. h ∙ f names u r
+-- A result that has an error of another one is that error.
+pub is_err : {V : Type 0} (r : Result V JsonError) (e : JsonError) → IsErrAnd r (λ y. y ≡ e) → r ≡ Err e
+is_err (Ok v) e h = absurd h
+is_err (Err y) e h = ap Err h
 
 -- A value in an option or a variant, if memory suffices.
 pub boxed : (D : Type 0) (R : Reading) (t : Tree) (d : Data) (r : Result Value JsonError) → MatchResult r (λ v. tree v ≡ t) (λ e. e ≡ OutOfMemory) → IsOnly D R t d → Answers D tree R d r
@@ -85,85 +86,47 @@ not_null x t b h = h
 
 -- ---- options
 
--- What is read as an option whose content may be `null`, and as another.
-pub nullable_form : (m : MessageType) (x : Layout) (u : Tree) (d : Data) → can_be_null x ≡ true → IsReading (option m) (layouts.option x) u d
-    → ((u ≡ nodes.Absent) × (d ≡ null)) ⊎ ((s : Tree) × (e : Data) × (u ≡ nodes.Present s) × (d ≡ alone (codes "Some") e) × IsReading m x s e)
-nullable_form m x u d b (inl is, h) = inl (is, subst (λ z. IsOptionJson (can_be_null x) (IsJsonOf x) z d) is h)
-nullable_form m x u d b (inr (s, is, r), h) =
-    let k = subst (λ z. IsOptionJson z (IsJsonOf x) (nodes.Present s) d) b (subst (λ z. IsOptionJson (can_be_null x) (IsJsonOf x) z d) is h) in
-    inr (s, k.0, is, k.1, (r, k.2))
+-- `null` is the JSON of no option with a value.
+held_not_null : (x : Layout) (s : Tree) → IsOptionJson (can_be_null x) (IsJsonOf x) (nodes.Present s) null → ⊥
+held_not_null x s h = elim (cases_Bool (can_be_null x)) [
+  | inl b ↦ let k = subst (λ z. IsOptionJson z (IsJsonOf x) (nodes.Present s) null) b h in cc k.1
+  | inr b ↦ not_null x s b (subst (λ z. IsOptionJson z (IsJsonOf x) (nodes.Present s) null) b h)
+]
 
--- If the content's JSON is never `null`, an option's JSON is `null` or that of the content.
-pub plain_form : (m : MessageType) (x : Layout) (u : Tree) (d : Data) → can_be_null x ≡ false → IsReading (option m) (layouts.option x) u d
-    → ((u ≡ nodes.Absent) × (d ≡ null)) ⊎ ((s : Tree) × (u ≡ nodes.Present s) × IsReading m x s d)
-plain_form m x u d b (inl is, h) = inl (is, subst (λ z. IsOptionJson (can_be_null x) (IsJsonOf x) z d) is h)
-plain_form m x u d b (inr (s, is, r), h) =
-    inr (s, is, (r, subst (λ z. IsOptionJson z (IsJsonOf x) (nodes.Present s) d) b (subst (λ z. IsOptionJson (can_be_null x) (IsJsonOf x) z d) is h)))
-
-true_or_false : (b : Bool) → (b ≡ true) ⊎ (b ≡ false)
-true_or_false true = inl refl
-true_or_false false = inr refl
+-- What is read as an option: `null` as the absent one, and any other JSON as one with a value.
+pub option_form : (m : MessageType) (x : Layout) (u : Tree) (d : Data) → IsReading (option m) (layouts.option x) u d
+    → ((u ≡ nodes.Absent) × (d ≡ null)) ⊎ ((s : Tree) × (u ≡ nodes.Present s) × IsHeldReading m x s d)
+option_form m x u d (inl is, h) = inl (is, subst (λ z. IsOptionJson (can_be_null x) (IsJsonOf x) z d) is h)
+option_form m x u d (inr (s, is, r), h) = inr (s, is, (r, subst (λ z. IsOptionJson (can_be_null x) (IsJsonOf x) z d) is h))
 
 -- `null` is read as the absent option alone.
 pub absent_only : (m : MessageType) (x : Layout) (d : Data) → d ≡ null → IsOnly (HasDistinctNames x) (IsReading (option m) (layouts.option x)) nodes.Absent d
-absent_only m x d is = ((inl refl, is), λ names u r. by u r (true_or_false (can_be_null x)))
+absent_only m x d is = ((inl refl, is), λ names u r. by u (option_form m x u d r))
   where
-    plain : (u : Tree) → can_be_null x ≡ false → ((u ≡ nodes.Absent) × (d ≡ null)) ⊎ ((s : Tree) × (u ≡ nodes.Present s) × IsReading m x s d) → u ≡ nodes.Absent
-    plain u b (inl (same, h)) = same
-    plain u b (inr (s, same, r)) = absurd (not_null x s b (subst (IsJsonOf x s) is r.1))
+    by : (u : Tree) → ((u ≡ nodes.Absent) × (d ≡ null)) ⊎ ((s : Tree) × (u ≡ nodes.Present s) × IsHeldReading m x s d) → u ≡ nodes.Absent
+    by u (inl (same, h)) = same
+    by u (inr (s, same, r)) = absurd (held_not_null x s (subst (IsOptionJson (can_be_null x) (IsJsonOf x) (nodes.Present s)) is r.1))
 
-    nullable : (u : Tree) → ((u ≡ nodes.Absent) × (d ≡ null)) ⊎ ((s : Tree) × (e : Data) × (u ≡ nodes.Present s) × (d ≡ alone (codes "Some") e) × IsReading m x s e) → u ≡ nodes.Absent
-    nullable u (inl (same, h)) = same
-    nullable u (inr (s, e, same, h, r)) = cc (sym is ∙ h)
+-- JSON that isn't `null` is read as an option only with a value that it is read as.
+pub held_form : (m : MessageType) (x : Layout) (u : Tree) (d : Data) → (d ≡ null → ⊥) → IsReading (option m) (layouts.option x) u d → (s : Tree) × (u ≡ nodes.Present s) × IsHeldReading m x s d
+held_form m x u d full r = elim (option_form m x u d r) [
+  | inl h ↦ absurd (full h.1)
+  | inr h ↦ h
+]
 
-    by : (u : Tree) → IsReading (option m) (layouts.option x) u d → (can_be_null x ≡ true) ⊎ (can_be_null x ≡ false) → u ≡ nodes.Absent
-    by u r (inl b) = nullable u (nullable_form m x u d b r)
-    by u r (inr b) = plain u b (plain_form m x u d b r)
-
-same_alone : (n p : List ℕ) (d e : Data) → alone n d ≡ alone p e → (n ≡ p) × (d ≡ e)
-same_alone n p d e is = (cc is, cc is)
-
--- An object with the member `Some` alone is read as an option with its content, and other JSON as its content.
-pub nullable_only : (m : MessageType) (x : Layout) (t : Tree) (d e : Data) → can_be_null x ≡ true → d ≡ alone (codes "Some") e → IsOnly (HasDistinctNames x) (IsReading m x) t e
+-- If JSON isn't `null`, the option's only tree has the only tree of the value in it.
+pub held_only : (m : MessageType) (x : Layout) (t : Tree) (d : Data) → (d ≡ null → ⊥) → IsOnly (HasDistinctNames x) (IsHeldReading m x) t d
     → IsOnly (HasDistinctNames x) (IsReading (option m) (layouts.option x)) (nodes.Present t) d
-nullable_only m x t d e b is (h, one) = (
-  (inr (t, refl, h.0), subst (λ z. IsOptionJson z (IsJsonOf x) (nodes.Present t) d) (sym b) (e, is, h.1)),
-  λ names u r. by names u (nullable_form m x u d b r),
-)
-  where
-    by : HasDistinctNames x → (u : Tree) → ((u ≡ nodes.Absent) × (d ≡ null)) ⊎ ((s : Tree) × (f : Data) × (u ≡ nodes.Present s) × (d ≡ alone (codes "Some") f) × IsReading m x s f) → u ≡ nodes.Present t
-    by names u (inl (same, none)) = cc (sym none ∙ is)
-    by names u (inr (s, f, same, has, r)) =
-        let alike : f ≡ e = (same_alone (codes "Some") (codes "Some") f e (sym has ∙ is)).1 in
-        same ∙ ap nodes.Present (one names s (subst (IsReading m x s) alike r))
+held_only m x t d full (h, one) =
+    ((inr (t, refl, h.0), h.1), λ names u r. let k = held_form m x u d full r in k.1 ∙ ap nodes.Present (one names k.0 k.2))
 
--- If JSON isn't `null`, the option's only tree has the content's only tree.
-pub plain_only : (m : MessageType) (x : Layout) (t : Tree) (d : Data) → can_be_null x ≡ false → (d ≡ null → ⊥) → IsOnly (HasDistinctNames x) (IsReading m x) t d
-    → IsOnly (HasDistinctNames x) (IsReading (option m) (layouts.option x)) (nodes.Present t) d
-plain_only m x t d b full (h, one) = (
-  (inr (t, refl, h.0), subst (λ z. IsOptionJson z (IsJsonOf x) (nodes.Present t) d) (sym b) h.1),
-  λ names u r. by names u (plain_form m x u d b r),
-)
-  where
-    by : HasDistinctNames x → (u : Tree) → ((u ≡ nodes.Absent) × (d ≡ null)) ⊎ ((s : Tree) × (u ≡ nodes.Present s) × IsReading m x s d) → u ≡ nodes.Present t
-    by names u (inl (same, none)) = absurd (full none)
-    by names u (inr (s, same, r)) = same ∙ ap nodes.Present (one names s r)
-
--- What holds wherever the content is read holds wherever the option is, if it isn't `null`.
-pub nullable_by : (P : Type 0) (m : MessageType) (x : Layout) (u : Tree) (d : Data) → can_be_null x ≡ true → (d ≡ null → ⊥) → ((s : Tree) (e : Data) → d ≡ alone (codes "Some") e → IsReading m x s e → P)
-    → IsReading (option m) (layouts.option x) u d → P
-nullable_by P m x u d b full f r = by (nullable_form m x u d b r)
-  where
-    by : ((u ≡ nodes.Absent) × (d ≡ null)) ⊎ ((s : Tree) × (e : Data) × (u ≡ nodes.Present s) × (d ≡ alone (codes "Some") e) × IsReading m x s e) → P
-    by (inl (same, none)) = absurd (full none)
-    by (inr (s, e, same, has, h)) = f s e has h
-
-pub plain_by : (P : Type 0) (m : MessageType) (x : Layout) (u : Tree) (d : Data) → can_be_null x ≡ false → (d ≡ null → ⊥) → ((s : Tree) → IsReading m x s d → P) → IsReading (option m) (layouts.option x) u d → P
-plain_by P m x u d b full f r = by (plain_form m x u d b r)
-  where
-    by : ((u ≡ nodes.Absent) × (d ≡ null)) ⊎ ((s : Tree) × (u ≡ nodes.Present s) × IsReading m x s d) → P
-    by (inl (same, none)) = absurd (full none)
-    by (inr (s, same, h)) = f s h
+-- The value in an option whose JSON may be `null` has the answer of the member `Some`.
+pub held_answer : (m : MessageType) (x : Layout) (d e : Data) (r : Result Value JsonError) → can_be_null x ≡ true → d ≡ alone (codes "Some") e
+    → Answers (HasDistinctNames x) tree (IsReading m x) e r → Answers (HasDistinctNames x) tree (IsHeldReading m x) d r
+held_answer m x d e r may is h =
+    let by : Tree → Bool → Type 0 = λ t b. IsOptionJson b (IsJsonOf x) (nodes.Present t) d in
+    answer_by (HasDistinctNames x) (HasDistinctNames x) tree (IsReading m x) (IsHeldReading m x) e d r (λ f. f) (λ t k. (k.0, subst (by t) (sym may) (e, is, k.1)))
+    (λ t k. let (f, has, one) = subst (by t) may k.1 in (k.0, subst (IsJsonOf x t) (same_content (codes "Some") f e (sym has ∙ is)) one)) h
 
 -- ---- items
 
@@ -171,24 +134,21 @@ plain_by P m x u d b full f r = by (plain_form m x u d b r)
 pub items_more : (R : Reading) (vs : List Value) (js : List json.Value) (v : Value) (j : json.Value) → AreItems R (trees (map tree vs)) (items_view js) → R (tree v) (view j)
     → AreItems R (trees (map tree (vs ++ v ∷ []))) (items_view (js ++ j ∷ []))
 items_more R [] [] v j h r = (r, tt)
-items_more R [] (k ∷ js) v j h r = absurd h
-items_more R (u ∷ us) [] v j h r = absurd h
 items_more R (u ∷ us) (k ∷ js) v j h r = (h.0, items_more R us js v j h.1 r)
+items_more R vs js v j h r = absurd h
 
 -- Items each of which is read as one tree alone are read as these trees alone.
 items_held : (D : Type 0) (R : Reading) (ts : Trees) (ds : Items) → AreItems (IsOnly D R) ts ds → AreItems R ts ds
 items_held D R NoTrees no_items h = tt
-items_held D R NoTrees (item d ds) h = absurd h
-items_held D R (Then t ts) no_items h = absurd h
 items_held D R (Then t ts) (item d ds) h = (h.0.0, items_held D R ts ds h.1)
+items_held D R ts ds h = absurd h
 
 items_one : (D : Type 0) (R : Reading) (ts us : Trees) (ds : Items) → AreItems (IsOnly D R) ts ds → D → AreItems R us ds → us ≡ ts
 items_one D R NoTrees NoTrees no_items h names r = refl
 items_one D R NoTrees (Then u us) no_items h names r = absurd r
-items_one D R (Then t ts) us no_items h names r = absurd h
-items_one D R NoTrees us (item d ds) h names r = absurd h
 items_one D R (Then t ts) NoTrees (item d ds) h names r = absurd r
 items_one D R (Then t ts) (Then u us) (item d ds) h names r = ap₂ Then (h.0.1 names u r.0) (items_one D R ts us ds h.1 names r.1)
+items_one D R ts us ds h names r = absurd h
 
 -- If each item is the only one that its JSON denotes, so are all items together.
 pub items_only : (D : Type 0) (R : Reading) (ts : Trees) (ds : Items) → AreItems (IsOnly D R) ts ds → IsOnly D (AreItems R) ts ds
@@ -204,28 +164,24 @@ item_at R (Then u us) (k ∷ js) (suc i) j h low here = item_at R us js i j h.1 
 module _ (P : Tree → Type 0) (R : Reading) where
   items_reads : (ts : Trees) (ds : Items) → AreItems (IsBoth P R) ts ds → Each P ts
   items_reads NoTrees no_items h = tt
-  items_reads NoTrees (item d ds) h = absurd h
-  items_reads (Then t ts) no_items h = absurd h
   items_reads (Then t ts) (item d ds) h = (h.0.0, items_reads ts ds h.1)
+  items_reads ts ds h = absurd h
 
   items_spelled : (ts : Trees) (ds : Items) → AreItems (IsBoth P R) ts ds → AreItems R ts ds
   items_spelled NoTrees no_items h = tt
-  items_spelled NoTrees (item d ds) h = absurd h
-  items_spelled (Then t ts) no_items h = absurd h
   items_spelled (Then t ts) (item d ds) h = (h.0.1, items_spelled ts ds h.1)
+  items_spelled ts ds h = absurd h
 
   items_both : (ts : Trees) (ds : Items) → Each P ts → AreItems R ts ds → AreItems (IsBoth P R) ts ds
   items_both NoTrees no_items each h = tt
-  items_both NoTrees (item d ds) each h = absurd h
-  items_both (Then t ts) no_items each h = absurd h
   items_both (Then t ts) (item d ds) each h = ((each.0, h.0), items_both ts ds each.1 h.1)
+  items_both ts ds each h = absurd h
 
 -- There is one tree for each item.
 pub items_count : (R : Reading) (ts : Trees) (ds : Items) → AreItems R ts ds → count ts ≡ items_len ds
 items_count R NoTrees no_items h = refl
-items_count R NoTrees (item d ds) h = absurd h
-items_count R (Then t ts) no_items h = absurd h
 items_count R (Then t ts) (item d ds) h = ap suc (items_count R ts ds h.1)
+items_count R ts ds h = absurd h
 
 -- What is read as a list or as an array, of which the trees of P are the elements and R relates them to JSON.
 module _ (P : Tree → Type 0) (R : Reading) where
@@ -265,6 +221,13 @@ module _ (P : Tree → Type 0) (R : Reading) where
     where
       by : IsArrayJson R (nodes.Group us) d → ⊥
       by (es, same, all) = other es same
+
+-- The entry of a map at an index is read.
+pub map_item : (k v : MessageType) (x y : Layout) (u : Tree) (d : Data) (xs js : List json.Value) (i : ℕ) (j : json.Value) → IsReading (seq (entry_of k v)) (mapping x y) u d
+    → d ≡ values.array (items_view js) → xs ≡ js → i < length xs → j ≡ get_or xs i j → (w : Tree) × IsEntryReading k x v y w (view j)
+map_item k v x y u d xs js i j r form whole low here =
+    let g = list_form (reads (entry_of k v)) (IsEntryJson (IsJsonOf x) (IsJsonOf y)) u (items_view js) (subst (IsReading (seq (entry_of k v)) (mapping x y) u) form r) in
+    item_at (IsEntryReading k x v y) g.0 xs i j (subst (λ ys. AreItems (IsEntryReading k x v y) g.0 (items_view ys)) (sym whole) g.2) low here
 
 -- ---- what an answer says
 

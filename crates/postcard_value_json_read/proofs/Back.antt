@@ -21,7 +21,7 @@ use Rattle.serde_json.specs.View.{items_of}
 use Rattle.serde_json.proofs.Views.{get_member-put, get_member-put_other}
 use Rattle.postcard_value_json.specs.Written.{Writer, add_member, all_json, alone, array_json, can_be_null, each_json, entry_json, field_writers, json_at, json_of, list_json, members_json, option_json, parts_json, parts_row, row, variant_json, writers}
 use Rattle.postcard_value_json_read.specs.Reading.{Reading, AreFields, AreItems, AreParts, HasMembers, IsArrayJson, IsEntryJson, IsJsonAt, IsJsonOf, IsListJson, IsOptionJson, IsVariantJson, fields_len, pair}
-use Rattle.postcard_value_json_read.proofs.BackLeaves.{leaf_back}
+use Rattle.postcard_value_json_read.proofs.BackLeaves.{leaf_back, same_group, same_seq}
 use Rattle.postcard_value_json_read.proofs.Groups.{some_is}
 
 -- What the writer writes of each tree of P is read as that tree by R.
@@ -76,12 +76,6 @@ option_back m x h (nodes.Present s) d (inr (u, is, r)) e = by (can_be_null x) e
     by false e = inner d e
 option_back m x h t d r e = absurd (cc e)
 
-same_seq : (ts us : Trees) → nodes.Seq ts ≡ nodes.Seq us → ts ≡ us
-same_seq ts us e = cc e
-
-same_group : (ts us : Trees) → nodes.Group ts ≡ nodes.Group us → ts ≡ us
-same_group ts us e = cc e
-
 module _ (P : Tree → Type 0) (p : Writer) (R : Reading) where
   all_back : IsBack P p R → (ts : Trees) (ds : List Data) → Each P ts → all_json p ts ≡ Some ds → AreItems R ts (items_of ds)
   all_back h NoTrees ds each e = subst (λ z. AreItems R NoTrees (items_of z)) (some_is [] ds e) tt
@@ -120,13 +114,12 @@ parts_back : (ms : MessageTypes) (xs : Layouts) (ts : Trees) (ds : List Data) �
 parts_back no_types no_layouts ts ds h none e =
     let same : [] ≡ ds = some_is [] ds (subst (λ z. each_json [] z ≡ Some ds) none e) in
     subst (λ z. AreParts no_layouts z (items_of ds)) (sym none) (subst (λ z. AreParts no_layouts NoTrees (items_of z)) same tt)
-parts_back no_types (then_layout x xs) ts ds h r e = absurd h
-parts_back (then_type m ms) no_layouts ts ds h r e = absurd h
 parts_back (then_type m ms) (then_layout x xs) ts ds h (t, us, is, first, rest) e =
     let k = chained (λ d. option_map (λ es. d ∷ es) (each_json (writers xs) us)) (json_of x t) ds (subst (λ z. each_json (writers (then_layout x xs)) z ≡ Some ds) is e) in
     let l = mapped (λ es. k.0 ∷ es) (each_json (writers xs) us) ds k.2 in
     subst (λ z. AreParts (then_layout x xs) z (items_of ds)) (sym is)
     (subst (λ z. AreParts (then_layout x xs) (Then t us) (items_of z)) l.2 (h.0.back t k.0 first k.1, parts_back ms xs us l.0 h.1 rest l.1))
+parts_back ms xs ts ds h r e = absurd h
 
 full_row : (x : Layout) (xs : Layouts) (ts : Trees) (ds : List Data) → AreParts (then_layout x xs) ts (items_of ds) → parts_row ds ≡ row ds
 full_row x xs NoTrees [] h = absurd h
@@ -187,8 +180,6 @@ fields_back no_types no_fields ts before ns h none e =
       long = subst (λ z. members_len z ≡ members_len before + 0) same (omega arith);
       kept = λ q d found. subst (λ z. get_member q z ≡ Some d) same found;
     }
-fields_back no_types (then_field n x fs) ts before ns h r e = absurd h
-fields_back (then_type m ms) no_fields ts before ns h r e = absurd h
 fields_back (then_type m ms) (then_field n x fs) ts before ns h (t, us, is, first, rest) e =
     let c = chained (λ d. option_and_then (members_json (field_writers fs) us) (add_member n d before)) (json_of x t) ns (subst (λ z. members_json (field_writers (then_field n x fs)) z before ≡ Some ns) is e) in
     let l = chained (members_json (field_writers fs) us) (add_member n c.0 before) ns c.2 in
@@ -201,6 +192,7 @@ fields_back (then_type m ms) (then_field n x fs) ts before ns h (t, us, is, firs
       long = omega (arith, g.long, more);
       kept = λ q d found. g.kept q d (subst (λ z. get_member q z ≡ Some d) a.1 (member_kept n c.0 before q d a.0 found));
     }
+fields_back ms fs ts before ns h r e = absurd h
 
 struct_back : (ms : MessageTypes) (fs : Fields) → AreFieldsBack ms fs → IsBack (reads (group ms)) (json_of (layouts.structure fs)) (IsJsonOf (layouts.structure fs))
 struct_back ms fs h (nodes.Group ts) d (us, is, r) e =
@@ -219,10 +211,9 @@ content_back n m x h t d r e = let k = mapped (alone n) (json_of x t) d e in (k.
 
 at_back : (ms : MessageTypes) (fs : Fields) → AreFieldsBack ms fs → (i : ℕ) (t : Tree) (d : Data) → reads_at ms i t → json_at fs i t ≡ Some d → IsJsonAt fs i t d
 at_back no_types no_fields h i t d r e = absurd r
-at_back no_types (then_field n x fs) h i t d r e = absurd h
-at_back (then_type m ms) no_fields h i t d r e = absurd h
 at_back (then_type m ms) (then_field n x fs) h zero t d r e = content_back n m x h.0 t d r e
 at_back (then_type m ms) (then_field n x fs) h (suc i) t d r e = at_back ms fs h.1 i t d r e
+at_back ms fs h i t d r e = absurd h
 
 same_index : (i j : ℕ) (t u : Tree) → nodes.Variant i t ≡ nodes.Variant j u → i ≡ j
 same_index i j t u e = cc e

@@ -8,6 +8,7 @@ use lib.Ieee.Bits.{to_bits-of_bits, of_bits-fits}
 use lib.Ieee.Exact.{HasValue, round_exact}
 use lib.Ieee.Fits.{round-fits, down_pos}
 use Rattle.std.proofs.Common.{◌≡◌, ℤ, pos, negsuc, Bool, true, false, not, ◌&&◌, List, [], ◌∷◌, Some, codes, nat_eq, if◌then◌else◌, refl, sym, ap, subst, ◌∙◌, true≢false, arith, ◌⊎◌, inl, inr}
+use Rattle.std.proofs.lemmas.Bool.{cases_lt}
 use Rattle.std.proofs.lemmas.Bool.Decides.{Decides-eqb}
 use Rattle.std.proofs.lemmas.List.{append_assoc}
 use Rattle.std.specs.Fmt.{digits}
@@ -22,17 +23,14 @@ use Rattle.postcard_value_text.specs.Floats.{AreNan, SpellsFloat, format_of}
 use Rattle.postcard_value_text.proofs.FloatTexts.{word_spells, nan_spells}
 use Rattle.serde_json.specs.Data.{number, string, float}
 use Rattle.postcard_value_json.specs.Written.{float_json, infinity, negative_infinity, special_text, usual_nan}
-use Rattle.postcard_value_json_read.specs.Reading.{IsFloatJson}
+use Rattle.postcard_value_json_read.specs.Reading.{IsFloatJson, bits_near}
 
 -- ---- rounding
 
-le_or_above : (i j : ℕ) → (i ≤ j) ⊎ (j < i)
-le_or_above i j = grind arith
-
 exponent_le : (i j : ℕ) → 2 ^ i ≤ 2 ^ j → i ≤ j
-exponent_le i j h = elim (le_or_above i j) [
-  | inl less ↦ less
-  | inr more ↦ absurd (omega (arith, h, pow-lt more))
+exponent_le i j h = elim (cases_lt j i) [
+  | inl more ↦ absurd (omega (arith, h, pow-lt more))
+  | inr less ↦ less
 ]
 
 parts : (a b c d : Bool) → T (a && b && c && d) → T a × T b × T c × T d
@@ -80,13 +78,12 @@ units_of f s (suc m) (negsuc n) h =
 
 -- From one fraction to another of the same size.
 rescale : (x : Float) (s : Bool) (a c b d : ℕ) → 0 < c → b * c ≡ a * d → HasValue x s a c → HasValue x s b d
-rescale nan s a c b d above same h = h
-rescale (inf t) s a c b d above same h = h
 rescale (fin t m e) s a c b d above same h = (
   h.0,
   eq_of_mul-eq-mul_right c above (m * up e * d) (b * down e)
       (mul_right_comm (m * up e) d c ∙ ap (λ (x : ℕ). x * d) h.1 ∙ mul_right_comm a (down e) d ∙ ap (λ (x : ℕ). x * down e) (sym same) ∙ mul_right_comm b c (down e)),
 )
+rescale x s a c b d above same h = h
 
 -- Rounding changes no float of the format.
 pub rounds_to_itself : (f : Format) (x : Float) → T (fits f x) → round_to_format f x ≡ x
@@ -107,27 +104,19 @@ finite_no_nan nan e = absurd (cc e)
 finite_no_nan (inf s) e = tt
 finite_no_nan (fin s m e) is = tt
 
-f32_number : (bits : ℕ) → bits < 2 ^ 32 → float_is_finite (of_bits binary32 bits) ≡ true → bits ≡ to_bits binary32 (round_to_format binary32 (of_bits binary32 bits))
-f32_number bits low finite =
+-- The bits of a finite float are those of the number that is written of it.
+number_back : (f : FloatType) (bits : ℕ) → bits < 2 * top (format_of f) → float_is_finite (of_bits (format_of f) bits) ≡ true → bits ≡ bits_near f (of_bits (format_of f) bits)
+number_back F32 bits low finite =
     let x = of_bits binary32 bits in
-    sym (ap (to_bits binary32) (rounds_to_itself binary32 x (of_bits-fits binary32 bits)) ∙ to_bits-of_bits binary32 bits (omega (arith, low)) (finite_no_nan x finite))
-
-f64_number : (bits : ℕ) → bits < 2 ^ 64 → float_is_finite (of_bits binary64 bits) ≡ true → bits ≡ to_bits binary64 (of_bits binary64 bits)
-f64_number bits low finite = sym (to_bits-of_bits binary64 bits (omega (arith, low)) (finite_no_nan (of_bits binary64 bits) finite))
+    sym (ap (to_bits binary32) (rounds_to_itself binary32 x (of_bits-fits binary32 bits)) ∙ to_bits-of_bits binary32 bits low (finite_no_nan x finite))
+number_back F64 bits low finite = sym (to_bits-of_bits binary64 bits low (finite_no_nan (of_bits binary64 bits) finite))
 
 -- ---- other floats
 
-inf_reads : (f : Format) → parse_float f (codes "inf") ≡ Some (inf false)
+-- The words that are written in place of the infinities and of a NaN, as they are read.
+words_read : (f : Format) → (parse_float f (codes "inf") ≡ Some (inf false)) × (parse_float f (codes "-inf") ≡ Some (inf true)) × (parse_float f (codes "nan") ≡ Some nan)
 unfolding read_float scan_numeral
-inf_reads f = refl
-
-minus_reads : (f : Format) → parse_float f (codes "-inf") ≡ Some (inf true)
-unfolding read_float scan_numeral
-minus_reads f = refl
-
-nan_reads : (f : Format) → parse_float f (codes "nan") ≡ Some nan
-unfolding read_float scan_numeral
-nan_reads f = refl
+words_read f = (refl, refl, refl)
 
 -- Bits that are not finite, nor those of the infinities, are a NaN's.
 other_nan : (f : Format) (bits : ℕ) → bits < 2 * top f → float_is_finite (of_bits f bits) ≡ false → (bits ≡ to_bits f (inf false) → ⊥) → (bits ≡ to_bits f (inf true) → ⊥) → is_nan (of_bits f bits) ≡ true
@@ -147,52 +136,37 @@ choose : (P : List ℕ → Type 0) (b : Bool) (u v : List ℕ) → (b ≡ true �
 choose P true u v f g = f refl
 choose P false u v f g = g refl
 
-plus_is : (f : FloatType) → to_bits (format_of f) (inf false) ≡ infinity f
+-- The bits for which these words are written.
+word_bits : (f : FloatType)
+    → (to_bits (format_of f) (inf false) ≡ infinity f) × (to_bits (format_of f) (inf true) ≡ negative_infinity f) × (to_bits (format_of f) nan ≡ usual_nan f)
 unfolding to_bits
-plus_is F32 = refl
-plus_is F64 = refl
-
-minus_is : (f : FloatType) → to_bits (format_of f) (inf true) ≡ negative_infinity f
-unfolding to_bits
-minus_is F32 = refl
-minus_is F64 = refl
-
-usual_is : (f : FloatType) → to_bits (format_of f) nan ≡ usual_nan f
-unfolding to_bits
-usual_is F32 = refl
-usual_is F64 = refl
+word_bits F32 = (refl, refl, refl)
+word_bits F64 = (refl, refl, refl)
 
 special_spells : (t : FloatType) (bits : ℕ) → bits < 2 * top (format_of t) → bits < 16 ^ 64 → float_is_finite (of_bits (format_of t) bits) ≡ false
     → SpellsFloat (format_of t) bits (special_text t bits)
 special_spells t bits low few other =
     let f = format_of t in
-    choose (SpellsFloat f bits) (nat_eq bits (infinity t)) _ _ (λ is. word_spells f bits (inf false) (codes "inf") (inf_reads f) ((Decides-eqb bits (infinity t)).0 is ∙ sym (plus_is t))) (λ no_plus.
-    choose (SpellsFloat f bits) (nat_eq bits (negative_infinity t)) _ _ (λ is. word_spells f bits (inf true) (codes "-inf") (minus_reads f) ((Decides-eqb bits (negative_infinity t)).0 is ∙ sym (minus_is t))) (λ no_minus.
-    choose (SpellsFloat f bits) (nat_eq bits (usual_nan t)) _ _ (λ is. word_spells f bits nan (codes "nan") (nan_reads f) ((Decides-eqb bits (usual_nan t)).0 is ∙ sym (usual_is t))) (λ unusual.
+    let (inf_reads, minus_reads, nan_reads) = words_read f in
+    let (plus_is, minus_is, usual_is) = word_bits t in
+    choose (SpellsFloat f bits) (nat_eq bits (infinity t)) _ _ (λ is. word_spells f bits (inf false) (codes "inf") inf_reads ((Decides-eqb bits (infinity t)).0 is ∙ sym plus_is)) (λ no_plus.
+    choose (SpellsFloat f bits) (nat_eq bits (negative_infinity t)) _ _ (λ is. word_spells f bits (inf true) (codes "-inf") minus_reads ((Decides-eqb bits (negative_infinity t)).0 is ∙ sym minus_is)) (λ no_minus.
+    choose (SpellsFloat f bits) (nat_eq bits (usual_nan t)) _ _ (λ is. word_spells f bits nan (codes "nan") nan_reads ((Decides-eqb bits (usual_nan t)).0 is ∙ sym usual_is)) (λ unusual.
     let are : AreNan f bits = (
       low,
       other_nan f bits low other
-          (λ is. true≢false (sym ((Decides-eqb bits (infinity t)).1 (is ∙ plus_is t)) ∙ no_plus)) (λ is. true≢false (sym ((Decides-eqb bits (negative_infinity t)).1 (is ∙ minus_is t)) ∙ no_minus)),
+          (λ is. true≢false (sym ((Decides-eqb bits (infinity t)).1 (is ∙ plus_is)) ∙ no_plus)) (λ is. true≢false (sym ((Decides-eqb bits (negative_infinity t)).1 (is ∙ minus_is)) ∙ no_minus)),
     ) in
     subst (SpellsFloat f bits) (sym (append_assoc (codes "nan(0x") (digits 16 false bits) (41 ∷ []))) (nan_spells f bits are few))))
 
-f32_back : (bits : ℕ) → bits < 2 ^ 32 → IsFloatJson F32 bits (float_json F32 bits)
-f32_back bits low = by (float_is_finite (of_bits binary32 bits)) refl
-  where
-    by : (b : Bool) → float_is_finite (of_bits binary32 bits) ≡ b
-        → IsFloatJson F32 bits (if b then number (float (of_bits binary32 bits)) else string (special_text F32 bits))
-    by true finite = f32_number bits low finite
-    by false other = special_spells F32 bits (omega (arith, low)) (omega (arith, low)) other
-
-f64_back : (bits : ℕ) → bits < 2 ^ 64 → IsFloatJson F64 bits (float_json F64 bits)
-f64_back bits low = by (float_is_finite (of_bits binary64 bits)) refl
-  where
-    by : (b : Bool) → float_is_finite (of_bits binary64 bits) ≡ b
-        → IsFloatJson F64 bits (if b then number (float (of_bits binary64 bits)) else string (special_text F64 bits))
-    by true finite = f64_number bits low finite
-    by false other = special_spells F64 bits (omega (arith, low)) (omega (arith, low)) other
+float_limits : (f : FloatType) (bits : ℕ) → bits < 256 ^ float_size f → (bits < 2 * top (format_of f)) × (bits < 16 ^ 64)
+float_limits F32 bits low = (omega (arith, low), omega (arith, low))
+float_limits F64 bits low = (omega (arith, low), omega (arith, low))
 
 -- The JSON of a float has its bits.
 pub float_back : (f : FloatType) (bits : ℕ) → bits < 256 ^ float_size f → IsFloatJson f bits (float_json f bits)
-float_back F32 bits low = f32_back bits low
-float_back F64 bits low = f64_back bits low
+float_back f bits below = by (float_is_finite (of_bits (format_of f) bits)) refl
+  where
+    by : (b : Bool) → float_is_finite (of_bits (format_of f) bits) ≡ b → IsFloatJson f bits (if b then number (float (of_bits (format_of f) bits)) else string (special_text f bits))
+    by true finite = number_back f bits (float_limits f bits below).0 finite
+    by false other = special_spells f bits (float_limits f bits below).0 (float_limits f bits below).1 other

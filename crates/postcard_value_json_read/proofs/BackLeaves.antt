@@ -8,7 +8,7 @@ use Rattle.std.specs.Str.Parse.{IsNumeral, digits_value, without_leading_plus, w
 use Rattle.std.proofs.Math.Nat.{pow-suc}
 use Rattle.std.proofs.lemmas.List.{length-reverse}
 use Rattle.std.specs.Bool.{◌==◌}
-use Rattle.std.proofs.lemmas.Bool.Decides.{Decides-eqb}
+use Rattle.std.proofs.lemmas.Bool.{ne_eqb}
 use Rattle.std.proofs.lemmas.Fmt.{decimal_is_IsNumeral_wide}
 use Rattle.std.proofs.lemmas.Int.{ints}
 use Rattle.std.proofs.lemmas.Str.Parse.{without_leading_plus_none}
@@ -40,14 +40,6 @@ use Rattle.postcard_value_json_read.proofs.Groups.{some_is}
 
 -- ---- numbers
 
--- If two numbers differ, the test `==` of them is false.
-unequal : (m n : ℕ) → m ≢ n → (m == n) ≡ false
-unequal m n other = by (m == n) refl
-  where
-    by : (b : Bool) → (m == n) ≡ b → (m == n) ≡ false
-    by true e = absurd (other ((Decides-eqb m n).0 e))
-    by false e = e
-
 -- Decimal digits begin with neither `+` nor `-`, so stripping a sign changes nothing.
 not_sign : (bs : List ℕ) → IsNumeral 10 bs → (get_or bs 0 0 ≢ 43) × (get_or bs 0 0 ≢ 45)
 not_sign [] h = absurd (omega (arith, h.0))
@@ -77,7 +69,7 @@ signed_digits (pos n) fits =
     let h = decimal_is_IsNumeral_wide n low in
     let first = not_sign (decimal n) h.0 in
     let plus : without_leading_plus (decimal n) ≡ decimal n = without_leading_plus_none (decimal n) first.0 in
-    let minus : (get_or (decimal n) 0 0 == 45) ≡ false = unequal (get_or (decimal n) 0 0) 45 first.1 in
+    let minus : (get_or (decimal n) 0 0 == 45) ≡ false = ne_eqb (get_or (decimal n) 0 0) 45 first.1 in
     let plain : without_leading_sign (decimal n) ≡ decimal n = rw minus plus in
     (subst (IsNumeral 10) (sym plain) h.0, rw minus (ap pos (sym (ap (digits_value 10) plus ∙ h.1))))
 signed_digits (negsuc n) fits =
@@ -140,10 +132,10 @@ fixed_whole order k ts long each =
 
 -- ---- leaves
 
-same_group : (ts us : Trees) → nodes.Group ts ≡ nodes.Group us → ts ≡ us
+pub same_group : (ts us : Trees) → nodes.Group ts ≡ nodes.Group us → ts ≡ us
 same_group ts us e = cc e
 
-same_seq : (ts us : Trees) → nodes.Seq ts ≡ nodes.Seq us → ts ≡ us
+pub same_seq : (ts us : Trees) → nodes.Seq ts ≡ nodes.Seq us → ts ≡ us
 same_seq ts us e = cc e
 
 bits_from : (signed : Bool) (i : Integer) (n : ℕ) (d : Data) → n < 256 ^ size_of i → Some (bits_json signed (size_of i) n) ≡ Some d → IsBitsJson signed i n d

@@ -14,10 +14,10 @@ use Rattle.serde_json.specs.declared.value.Value as json
 use Rattle.serde_json.specs.Data.{Data, Items, null, no_items, item}
 use Rattle.serde_json.specs.Data as values
 use Rattle.serde_json.specs.Events.{items_len}
-use Rattle.serde_json.specs.Find.{get, get_item}
+use Rattle.serde_json.specs.Find.{get}
 use Rattle.serde_json.specs.View.{view, items_view}
 use Rattle.postcard_value_json_read.specs.Reading.{Reading, IsJsonOf, IsEntryJson, IsTupleJson, IsStructJson, AreParts, AreFields, HasMembers, fields_len, pair}
-use Rattle.postcard_value_json_read.specs.Accepted.{IsOnly, IsReading, IsEntryReading, IsHalfReading, IsMemberReading, entry_tree, ArePartsReading, AreFieldsReading}
+use Rattle.postcard_value_json_read.specs.Accepted.{IsOnly, IsReading, IsEntryReading, IsMemberReading, entry_tree, ArePartsReading, AreFieldsReading}
 
 pub some_is : {A : Type 0} (x y : A) → Some x ≡ Some y → x ≡ y
 some_is x y e = cc
@@ -37,29 +37,21 @@ ArePartsOnly ss vs js = ⊥
 pub parts_more : (ss : List Schema) (vs : List Value) (js : List json.Value) (s : Schema) (v : Value) (j : json.Value) → ArePartsOnly ss vs js
     → IsOnly (HasDistinctNames (layout_of s)) (IsReading (type_of s) (layout_of s)) (tree v) (view j) → ArePartsOnly (ss ++ s ∷ []) (vs ++ v ∷ []) (js ++ j ∷ [])
 parts_more [] [] [] s v j h one = (one, tt)
-parts_more [] [] (k ∷ js) s v j h one = absurd h
-parts_more [] (u ∷ us) js s v j h one = absurd h
-parts_more (r ∷ ss) [] js s v j h one = absurd h
-parts_more (r ∷ ss) (u ∷ us) [] s v j h one = absurd h
 parts_more (r ∷ ss) (u ∷ us) (k ∷ js) s v j h one = (h.0, parts_more ss us js s v j h.1 one)
+parts_more ss vs js s v j h one = absurd h
 
 parts_read : (ss : List Schema) (vs : List Value) (js : List json.Value) → ArePartsOnly ss vs js → ArePartsReading (types_of ss) (layouts_of ss) (trees (map tree vs)) (items_view js)
 parts_read [] [] [] h = (refl, tt)
-parts_read [] [] (j ∷ js) h = absurd h
-parts_read [] (v ∷ vs) js h = absurd h
-parts_read (s ∷ ss) [] js h = absurd h
-parts_read (s ∷ ss) (v ∷ vs) [] h = absurd h
 parts_read (s ∷ ss) (v ∷ vs) (j ∷ js) h = let k = parts_read ss vs js h.1 in ((tree v, trees (map tree vs), refl, h.0.0.0, k.0), (h.0.0.1, k.1))
+parts_read ss vs js h = absurd h
 
 parts_one : (ss : List Schema) (vs : List Value) (js : List json.Value) (us : Trees) → ArePartsOnly ss vs js → HaveDistinctNames (layouts_of ss)
     → reads_all (types_of ss) us → AreParts (layouts_of ss) us (items_view js) → us ≡ trees (map tree vs)
 parts_one [] [] js us h names r spelled = r
-parts_one [] (v ∷ vs) js us h names r spelled = absurd h
-parts_one (s ∷ ss) [] js us h names r spelled = absurd h
-parts_one (s ∷ ss) (v ∷ vs) [] us h names r spelled = absurd h
 parts_one (s ∷ ss) (v ∷ vs) (j ∷ js) us h names (u, more, is, first, rest) spelled =
     let all = subst (λ z. AreParts (layouts_of (s ∷ ss)) z (items_view (j ∷ js))) is spelled in
     is ∙ ap₂ Then (h.0.1 names.0 u (first, all.0)) (parts_one ss vs js more h.1 names.1 rest all.1)
+parts_one ss vs js us h names r spelled = absurd h
 
 -- The parts that were read are the only ones that the items denote.
 pub parts_only : (ss : List Schema) (vs : List Value) (js : List json.Value) → ArePartsOnly ss vs js
@@ -78,20 +70,11 @@ part_at (z ∷ ss) us (k ∷ js) (suc i) s j ((u, more, is, first, rest), h) low
     let all = subst (λ y. AreParts (layouts_of (z ∷ ss)) y (items_view (k ∷ js))) is h in
     part_at ss more js i s j (rest, all.1) (omega (arith, low)) here there
 
--- If names tell the values of all parts apart, they tell those of the part at i apart.
-pub distinct_at : (ss : List Schema) (i : ℕ) (s : Schema) → HaveDistinctNames (layouts_of ss) → i < length ss → s ≡ get_or ss i s → HasDistinctNames (layout_of s)
-distinct_at [] i s names low here = absurd (omega (arith, low))
-distinct_at (u ∷ us) zero s names low here = subst HasDistinctNames (ap layout_of (sym here)) names.0
-distinct_at (u ∷ us) (suc i) s names low here = distinct_at us i s names.1 (omega (arith, low)) here
-
 -- The numbers of items and parts are equal.
 parts_count : (ss : List Schema) (us : Trees) (ds : Items) → AreParts (layouts_of ss) us ds → items_len ds ≡ length ss
 parts_count [] NoTrees no_items h = refl
-parts_count [] NoTrees (item d ds) h = absurd h
-parts_count [] (Then u us) ds h = absurd h
-parts_count (s ∷ ss) NoTrees ds h = absurd h
-parts_count (s ∷ ss) (Then u us) no_items h = absurd h
 parts_count (s ∷ ss) (Then u us) (item d ds) h = ap suc (parts_count ss us ds h.1)
+parts_count ss us ds h = absurd h
 
 -- ---- tuples
 
@@ -125,68 +108,36 @@ tuple_only (s ∷ ss) ts ds full (h, one) = (
 
 -- ---- entries of maps
 
--- Two items are those at the indexes 0 and 1.
-two_items : (ds : Items) (e f : Data) → items_len ds ≡ 2 → get_item 0 ds ≡ Some e → get_item 1 ds ≡ Some f → ds ≡ item e (item f no_items)
-two_items no_items e f long first second = absurd (omega (arith, long))
-two_items (item a no_items) e f long first second = absurd (omega (arith, long))
-two_items (item a (item b no_items)) e f long first second = ap₂ (λ x y. item x (item y no_items)) (some_is a e first) (some_is b f second)
-two_items (item a (item b (item x ds))) e f long first second = absurd (omega (arith, long))
+-- Two items are a pair.
+pub two_items : (js : List json.Value) (j k : json.Value) → length js ≡ 2 → j ≡ get_or js 0 j → k ≡ get_or js 1 k → values.array (items_view js) ≡ pair (view j) (view k)
+two_items (a ∷ b ∷ []) j k long first second = ap₂ (λ x y. pair (view x) (view y)) (sym first) (sym second)
+two_items js j k long first second = absurd (omega (arith, long))
 
 same_pair : (a b e f : Data) → pair a b ≡ pair e f → (a ≡ e) × (b ≡ f)
 same_pair a b e f is = (cc is, cc is)
 
--- What is read as an entry of types k and v with the layouts x and y.
-pub record EntryForm (k : MessageType) (x : Layout) (v : MessageType) (y : Layout) (u : Tree) (d : Data) : Type 0 where
-  pub key : Tree
-  pub value : Tree
-  pub first : Data
-  pub second : Data
-  pub is : u ≡ entry_tree key value
-  pub form : d ≡ pair first second
-  pub key_read : IsReading k x key first
-  pub value_read : IsReading v y value second
-
 module _ (k : MessageType) (x : Layout) (v : MessageType) (y : Layout) where
-  pub entry_form : (u : Tree) (d : Data) → IsEntryReading k x v y u d → EntryForm k x v y u d
-  entry_form u d ((ts, is, (a, more, is1, ra, (b, rest, is2, rb, none))), h) =
-      let same : u ≡ entry_tree a b = is ∙ ap nodes.Group (is1 ∙ ap (Then a) (is2 ∙ ap (Then b) none)) in
+  -- What is read as an entry of types k and v with the layouts x and y: the trees of the key and the value, and the JSON of each.
+  pub entry_form : (w : Tree) (d : Data) → IsEntryReading k x v y w d
+      → (t : Tree) × (u : Tree) × (e : Data) × (f : Data) × (w ≡ entry_tree t u) × (d ≡ pair e f) × IsReading k x t e × IsReading v y u f
+  entry_form w d ((ts, is, (a, more, is1, ra, (b, rest, is2, rb, none))), h) =
+      let same : w ≡ entry_tree a b = is ∙ ap nodes.Group (is1 ∙ ap (Then a) (is2 ∙ ap (Then b) none)) in
       let g = subst (λ z. IsEntryJson (IsJsonOf x) (IsJsonOf y) z d) same h in
-      record { key = a; value = b; first = g.0; second = g.1; is = same; form = g.2; key_read = (ra, g.3); value_read = (rb, g.4) }
+      (a, b, g.0, g.1, same, g.2, (ra, g.3), (rb, g.4))
+
+  -- The same of a known pair.
+  pub entry_at : (w : Tree) (d e f : Data) → d ≡ pair e f → IsEntryReading k x v y w d → (t : Tree) × (u : Tree) × (w ≡ entry_tree t u) × IsReading k x t e × IsReading v y u f
+  entry_at w d e f is r =
+      let (t, u, a, b, whole, form, first, second) = entry_form w d r in
+      let same = same_pair a b e f (sym form ∙ is) in
+      (t, u, whole, subst (IsReading k x t) same.0 first, subst (IsReading v y u) same.1 second)
 
   pub entry_only : (t u : Tree) (d e f : Data) → d ≡ pair e f → IsOnly (HasDistinctNames x) (IsReading k x) t e → IsOnly (HasDistinctNames y) (IsReading v y) u f
       → IsOnly (HasDistinctNames x × HasDistinctNames y) (IsEntryReading k x v y) (entry_tree t u) d
   entry_only t u d e f is (h, one) (g, other) = (
     ((Then t (Then u NoTrees), refl, (t, Then u NoTrees, refl, h.0, (u, NoTrees, refl, g.0, refl))), (e, f, is, h.1, g.1)),
-    λ names w r.
-        let m = entry_form w d r in
-        let same = same_pair m.first m.second e f (sym m.form ∙ is) in
-        m.is ∙ ap₂ entry_tree (one names.0 m.key (subst (IsReading k x m.key) same.0 m.key_read)) (other names.1 m.value (subst (IsReading v y m.value) same.1 m.value_read)),
+    λ names w r. let m = entry_at w d e f is r in m.2 ∙ ap₂ entry_tree (one names.0 m.0 m.3) (other names.1 m.1 m.4),
   )
-
-  -- The key and the value are read as the halves of an entry.
-  pub key_half : (w : Tree) (d : Data) → IsEntryReading k x v y w d → (t : Tree) × IsHalfReading 0 k x t d
-  key_half w d r = let m = entry_form w d r in (m.key, (item m.first (item m.second no_items), m.form, refl, m.first, refl, m.key_read))
-
-  pub value_half : (w : Tree) (d : Data) → IsEntryReading k x v y w d → (t : Tree) × IsHalfReading 1 v y t d
-  value_half w d r = let m = entry_form w d r in (m.value, (item m.first (item m.second no_items), m.form, refl, m.second, refl, m.value_read))
-
-  pub halves_only : (t u : Tree) (d : Data) → IsOnly (HasDistinctNames x) (IsHalfReading 0 k x) t d → IsOnly (HasDistinctNames y) (IsHalfReading 1 v y) u d
-      → IsOnly (HasDistinctNames x × HasDistinctNames y) (IsEntryReading k x v y) (entry_tree t u) d
-  halves_only t u d ((ds, is, long, e, first, h), one) ((es, was, size, f, second, g), other) =
-      let same : es ≡ ds = same_items ds es (sym is ∙ was) in
-      let form : d ≡ pair e f = is ∙ ap values.array (two_items ds e f long first (subst (λ z. get_item 1 z ≡ Some f) same second)) in
-      entry_only t u d e f form (h, λ names w r. one names w (ds, is, long, e, first, r)) (g, λ names w r. other names w (es, was, size, f, second, r))
-
--- The half of an array of two items is what its item is read as.
-pub half_from : (h : ℕ) (m : MessageType) (x : Layout) (u : Tree) (d : Data) (ds : Items) (e : Data) → d ≡ values.array ds → get_item h ds ≡ Some e → IsHalfReading h m x u d → IsReading m x u e
-half_from h m x u d ds e form found (es, is, long, f, has, r) =
-    let same : es ≡ ds = same_items ds es (sym form ∙ is) in
-    subst (IsReading m x u) (some_is f e (sym has ∙ ap (get_item h) same ∙ found)) r
-
--- If a value is the only one that an item denotes, it is the only one for that half of the entry.
-pub half_answer : (h : ℕ) (m : MessageType) (x : Layout) (t : Tree) (d : Data) (ds : Items) (e : Data) → d ≡ values.array ds → items_len ds ≡ 2 → get_item h ds ≡ Some e
-    → IsOnly (HasDistinctNames x) (IsReading m x) t e → IsOnly (HasDistinctNames x) (IsHalfReading h m x) t d
-half_answer h m x t d ds e form long found (r, one) = ((ds, form, long, e, found, r), λ names u q. one names u (half_from h m x u d ds e form found q))
 
 -- ---- the fields of a struct
 
@@ -200,24 +151,21 @@ AreFieldsOnly ns vs d = ⊥
 pub fields_more : (ns : List (Named Schema)) (vs : List Value) (n : Named Schema) (v : Value) (d : Data) → AreFieldsOnly ns vs d
     → IsOnly (HasDistinctNames (layout_of n.content)) (IsMemberReading (string_bytes n.name) (type_of n.content) (layout_of n.content)) (tree v) d → AreFieldsOnly (ns ++ n ∷ []) (vs ++ v ∷ []) d
 fields_more [] [] n v d h one = (one, tt)
-fields_more [] (u ∷ us) n v d h one = absurd h
-fields_more (m ∷ ns) [] n v d h one = absurd h
 fields_more (m ∷ ns) (u ∷ us) n v d h one = (h.0, fields_more ns us n v d h.1 one)
+fields_more ns vs n v d h one = absurd h
 
 fields_read : (ns : List (Named Schema)) (vs : List Value) (d : Data) → AreFieldsOnly ns vs d → AreFieldsReading (types_of (contents ns)) (fields_of ns) (trees (map tree vs)) d
 fields_read [] [] d h = (refl, tt)
-fields_read [] (v ∷ vs) d h = absurd h
-fields_read (n ∷ ns) [] d h = absurd h
 fields_read (n ∷ ns) (v ∷ vs) d h = let k = fields_read ns vs d h.1 in ((tree v, trees (map tree vs), refl, h.0.0.2.0, k.0), ((h.0.0.0, h.0.0.1, h.0.0.2.1), k.1))
+fields_read ns vs d h = absurd h
 
 fields_one : (ns : List (Named Schema)) (vs : List Value) (us : Trees) (d : Data) → AreFieldsOnly ns vs d → AreNamed (fields_of ns)
     → reads_all (types_of (contents ns)) us → AreFields (fields_of ns) us d → us ≡ trees (map tree vs)
 fields_one [] [] us d h names r spelled = r
-fields_one [] (v ∷ vs) us d h names r spelled = absurd h
-fields_one (n ∷ ns) [] us d h names r spelled = absurd h
 fields_one (n ∷ ns) (v ∷ vs) us d h names (u, more, is, first, rest) spelled =
     let all = subst (λ z. AreFields (fields_of (n ∷ ns)) z d) is spelled in
     is ∙ ap₂ Then (h.0.1 names.1 u (all.0.0, all.0.1, (first, all.0.2))) (fields_one ns vs more d h.1 names.2 rest all.1)
+fields_one ns vs us d h names r spelled = absurd h
 
 -- The fields that were read are the only ones that the members denote.
 pub fields_only : (ns : List (Named Schema)) (vs : List Value) (d : Data) → AreFieldsOnly ns vs d
@@ -234,11 +182,6 @@ field_at (m ∷ ns) us d zero n ((u, more, is, first, rest), h) low here =
 field_at (m ∷ ns) us d (suc i) n ((u, more, is, first, rest), h) low here =
     let all = subst (λ y. AreFields (fields_of (m ∷ ns)) y d) is h in
     field_at ns more d i n (rest, all.1) (omega (arith, low)) here
-
-pub named_at : (ns : List (Named Schema)) (i : ℕ) (n : Named Schema) → AreNamed (fields_of ns) → i < length ns → n ≡ get_or ns i n → HasDistinctNames (layout_of n.content)
-named_at [] i n names low here = absurd (omega (arith, low))
-named_at (m ∷ ns) zero n names low here = subst (λ y. HasDistinctNames (layout_of y.content)) (sym here) names.1
-named_at (m ∷ ns) (suc i) n names low here = named_at ns i n names.2 (omega (arith, low)) here
 
 fields_length : (ns : List (Named Schema)) → fields_len (fields_of ns) ≡ length ns
 fields_length [] = refl

@@ -57,11 +57,6 @@ one_bits false i a b d h g = unsigned_one a b d h.1 g.1
 
 -- Each tree that is read is f of something of which S holds. So that of x is the only one if S holds of nothing else, and there is
 -- none if S holds of nothing.
-
--- ---- the only tree
-
--- Each tree that is read is f of something of which S holds. So that of x is the only one if S holds of nothing else, and there is
--- none if S holds of nothing.
 pub only_by : {X : Type 0} (f : X → Tree) (R : Reading) (S : X → Type 0) (x : X) (d : Data) → ((u : Tree) → R u d → (y : X) × (u ≡ f y) × S y) → R (f x) d → ((y : X) → S y → y ≡ x)
     → IsOnly (Unit {0}) R (f x) d
 only_by f R S x d form h one = (h, λ names u r. let k = form u r in k.1 ∙ ap f (one k.0 k.2))

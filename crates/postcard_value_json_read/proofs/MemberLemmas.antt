@@ -1,5 +1,5 @@
 -- Lemmas on the last member with a name, in the text of an object.
-use Rattle.std.proofs.Common.{◌≡◌, ℕ, zero, suc, ◌+◌, Bool, true, false, List, [], ◌∷◌, ◌++◌, length, Some, refl, sym, ap, subst, ◌∙◌, ◌⊎◌, inl, inr, true≢false, length-append, arith}
+use Rattle.std.proofs.Common.{◌≡◌, ℕ, zero, suc, ◌≤◌, Bool, true, false, List, [], ◌∷◌, ◌++◌, length, Some, refl, sym, ap, subst, ◌∙◌, ◌⊎◌, inl, inr, true≢false, length-append, arith}
 use Rattle.std.specs.Prelude.{IsUtf8}
 use Rattle.std.specs.Char.{is_ascii_whitespace}
 use Rattle.std.specs.Str.{IsTrimAsciiStart}
@@ -10,7 +10,7 @@ use Rattle.postcard_value_text.proofs.Fronts.{one_rest, other_sign}
 use Rattle.serde_json.specs.Data.{string}
 use Rattle.serde_json.specs.Read.{read}
 use Rattle.postcard_value_json_read.specs.Parts.{AreMembers, AreOthers, IsMemberAt, IsMemberText, IsNameText, IsOtherName}
-use Rattle.postcard_value_json_read.specs.Values.{EndsScalar, IsString, IsValue}
+use Rattle.postcard_value_json_read.specs.Values.{EndsScalar, IsEndOf, IsString, IsValue}
 use Rattle.postcard_value_json_read.proofs.PartLemmas.{Skips, led_front, sign_ends, sign_taken, value_first, value_front}
 
 -- From the text of members on, `rest` begins with the value of the last member with the name.
@@ -195,29 +195,6 @@ members_of name text a rest brace take none (n, m, left, after, before, behind, 
     let got = sign_taken brace 123 text a b refl take none sign in
     (n, m, left, after, subst (λ z. TakesPhrase (Then (AreMembers n) (Then (Led (IsNameText name)) (IsSign 58))) z left) (sym got.1) more, behind, at)
 
--- An empty text has no members.
-some_left : (sign : ℕ) (text rest : List ℕ) → text ≡ [] → TakesPhrase (IsSign sign) text rest → ⊥
-some_left sign text rest none (front, (blanks, phrase, blank, is, e), whole) =
-    let long : length text ≡ 0 = ap length none in
-    let parts = ap length whole ∙ length-append front rest in
-    let more = ap length e ∙ length-append blanks phrase in
-    let one : length phrase ≡ 1 = ap length is in
-    omega (arith, long, parts, more, one)
-
-all_left : (P : List ℕ → Type 0) (text rest : List ℕ) → text ≡ [] → TakesPhrase P text rest → rest ≡ []
-all_left P text rest none (front, is, whole) = by rest (ap length (sym none ∙ whole) ∙ length-append front rest)
-  where
-    by : (r : List ℕ) → 0 ≡ length front + length r → r ≡ []
-    by [] e = refl
-    by (x ∷ xs) e = absurd (omega (arith, e))
-
--- While a member is still ahead, the text doesn't end.
-pub ended : (name text found rest : List ℕ) → text ≡ [] → HasFound name text found rest → ⊥
-ended name text found rest none (inl (n, m, left, after, before, behind, at)) =
-    let (t, members, more) = takes_split (AreMembers n) (Then (Led (IsNameText name)) (IsSign 58)) text left before in
-    let (p, name_text, sign) = takes_split (Led (IsNameText name)) (IsSign 58) t left more in
-    some_left 58 p left (all_left (Led (IsNameText name)) t p (all_left (AreMembers n) text t none members) name_text) sign
-ended name text found rest none (inr ((m, after, h), same)) =
-    let (t, member, more) = takes_split (IsMemberText (IsOtherName name)) (Then (AreOthers name m) (IsSign 125)) text after h in
-    let (p, s, name_text, sign, value) = member_parts (IsOtherName name) text t member in
-    some_left 58 p s (all_left (Led (IsOtherName name)) text p none name_text) sign
+-- An end of a text is no longer than the text.
+pub end_shorter : (a b : List ℕ) → IsEndOf a b → length b ≤ length a
+end_shorter a b (x, e) = let n = ap length e ∙ length-append x b in omega (arith, n)

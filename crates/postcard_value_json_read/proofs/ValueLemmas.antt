@@ -32,10 +32,6 @@ scalar_on b left (x ∷ xs) rest h ends e on = (xs, h.1, cc)
 abbrev pub Open : ℕ → List ℕ → List ℕ → Type 0
 Open depth left rest = ((depth ≡ 0) × (left ≡ rest)) ⊎ ((n : ℕ) × (ps : List Piece) × (depth ≡ suc n) × Closes (suc n) ps × (left ≡ bytes ps ++ rest))
 
--- What is left at this depth: the whole value at depth 0, and else pieces that close the open brackets.
-abbrev pub Within : ℕ → List ℕ → List ℕ → List ℕ → Type 0
-Within depth left value rest = ((depth ≡ 0) × (left ≡ value ++ rest)) ⊎ ((n : ℕ) × (ps : List Piece) × (depth ≡ suc n) × Closes (suc n) ps × (left ≡ bytes ps ++ rest))
-
 closing_only : (b : ℕ) → is_closing b ≡ true → is_opening b ≡ false
 closing_only b e = elim (or_cases (b == 93) (b == 125) e) [
   | inl is ↦ subst (λ y. is_opening y ≡ false) (sym (eqb-true b 93 is)) refl
@@ -53,13 +49,10 @@ quote_in b n left rest after (bracket x ∷ ps) (inr h) e q cut = let same : x �
 quote_in b n left rest after (other x ∷ ps) h e q cut = let same : x ≡ 34 = cc in absurd (h.0 same)
 
 -- A quote begins a string, which is one piece.
-pub quote_step : (depth b : ℕ) (left value rest after : List ℕ) → IsNested value → Within depth (b ∷ left) value rest → b ≡ 34 → ((inside more : List ℕ) → AreQuoted false inside → b ∷ left ≡ 34 ∷ (inside ++ 34 ∷ more) → after ≡ more)
+pub quote_step : (depth b : ℕ) (left rest after : List ℕ) → Open depth (b ∷ left) rest → (depth ≡ 0 → ⊥) → b ≡ 34 → ((inside more : List ℕ) → AreQuoted false inside → b ∷ left ≡ 34 ∷ (inside ++ 34 ∷ more) → after ≡ more)
     → Open depth after rest
-quote_step depth b left value rest after (o, ps, opens, closes, is) (inl (none, e)) q cut =
-    let front : b ∷ left ≡ o ∷ (bytes ps ++ rest) = e ∙ ap (λ t. t ++ rest) is in
-    let same : o ≡ 34 = cc in
-    absurd (cc (sym opens ∙ ap is_opening same))
-quote_step depth b left value rest after nested (inr (n, ps, some, closes, e)) q cut = let (qs, more, is) = quote_in b n left rest after ps closes e q cut in inr (n, qs, some, more, is)
+quote_step depth b left rest after (inl (none, e)) some q cut = absurd (some none)
+quote_step depth b left rest after (inr (n, ps, is, closes, e)) some q cut = let (qs, more, same) = quote_in b n left rest after ps closes e q cut in inr (n, qs, is, more, same)
 
 byte_in : (b n depth : ℕ) (left rest : List ℕ) (ps : List Piece) → Closes (suc n) ps → b ∷ left ≡ bytes ps ++ rest → (b ≡ 34 → ⊥) → (is_opening b ≡ true → depth ≡ suc n + 1)
     → (is_opening b ≡ false → is_closing b ≡ true → depth ≡ suc n - 1) → (is_opening b ≡ false → is_closing b ≡ false → depth ≡ suc n) → Open depth left rest
@@ -85,21 +78,21 @@ byte_in b n depth left rest (other x ∷ ps) h e q opened closed same =
     inr (n, ps, same (subst (λ y. is_opening y ≡ false) one h.1) (subst (λ y. is_closing y ≡ false) one h.2), h.3, cc)
 
 -- Another byte is one piece, which may open or close a bracket.
-pub byte_step : (depth b next : ℕ) (left value rest : List ℕ) → IsNested value → Within depth (b ∷ left) value rest → (b ≡ 34 → ⊥) → (is_opening b ≡ true → next ≡ depth + 1)
+pub byte_step : (depth b next : ℕ) (left rest : List ℕ) → Open depth (b ∷ left) rest → (depth ≡ 0 → ⊥) → (b ≡ 34 → ⊥) → (is_opening b ≡ true → next ≡ depth + 1)
     → (is_opening b ≡ false → is_closing b ≡ true → next ≡ depth - 1) → (is_opening b ≡ false → is_closing b ≡ false → next ≡ depth) → Open next left rest
-byte_step depth b next left value rest (o, ps, opens, closes, is) (inl (none, e)) q opened closed same =
+byte_step depth b next left rest (inl (none, e)) some q opened closed same = absurd (some none)
+byte_step depth b next left rest (inr (n, ps, is, closes, e)) some q opened closed same =
+    byte_in b n next left rest ps closes e q (λ i. opened i ∙ ap (λ k. k + 1) is) (λ i j. closed i j ∙ ap (λ k. k - 1) is) (λ i j. same i j ∙ is)
+
+-- The first byte of an array or an object opens a bracket.
+pub first_open : (b depth : ℕ) (left value rest : List ℕ) → IsNested value → b ∷ left ≡ value ++ rest → (is_opening b ≡ true → depth ≡ 0 + 1) → Open depth left rest
+first_open b depth left value rest (o, ps, opens, closes, is) e opened =
     let front : b ∷ left ≡ o ∷ (bytes ps ++ rest) = e ∙ ap (λ t. t ++ rest) is in
     let one : o ≡ b = cc in
-    let d : next ≡ depth + 1 = opened (subst (λ y. is_opening y ≡ true) one opens) in
+    let d : depth ≡ 0 + 1 = opened (subst (λ y. is_opening y ≡ true) one opens) in
     inr (zero, ps, omega arith, closes, cc)
-byte_step depth b next left value rest nested (inr (n, ps, some, closes, e)) q opened closed same =
-    byte_in b n next left rest ps closes e q (λ i. opened i ∙ ap (λ k. k + 1) some) (λ i j. closed i j ∙ ap (λ k. k - 1) some) (λ i j. same i j ∙ some)
 
 -- When no bracket is open, the value has ended.
 pub open_ended : (depth : ℕ) (left rest : List ℕ) → Open depth left rest → depth ≡ 0 → left ≡ rest
 open_ended depth left rest (inl (none, e)) is = e
 open_ended depth left rest (inr (n, ps, some, h, e)) is = absurd (omega arith)
-
-pub open_within : (depth : ℕ) (left value rest : List ℕ) → Open depth left rest → (depth ≡ 0 → ⊥) → Within depth left value rest
-open_within depth left value rest (inl (none, e)) some = absurd (some none)
-open_within depth left value rest (inr h) some = inr h

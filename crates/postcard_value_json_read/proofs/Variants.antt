@@ -1,6 +1,7 @@
 -- Lemmas on variants that are read from JSON.
 use Rattle.std.proofs.Common.{◌≡◌, ℕ, zero, suc, ◌+◌, ◌<◌, ◌^◌, Bool, true, false, List, [], ◌∷◌, length, get_or, Option, Some, None, option_map, bytes_eq, string_bytes, Bor, refl, sym, ap, ap₂, subst, ◌∙◌, true≢false, arith, ◌⊎◌, inl, inr}
 use Rattle.std.specs.Prelude.{is_some, IfSome, IfNone}
+use Rattle.std.proofs.lemmas.List.{get_or_default}
 use Rattle.std.proofs.lemmas.Slice.Eq.{bytes_eq-Decides}
 use Rattle.postcard_wire.specs.Tree.{Tree, NoTrees}
 use Rattle.postcard_wire.specs.Tree as nodes
@@ -9,8 +10,9 @@ use Rattle.postcard_schema.specs.declared.schema.Schema.{Schema}
 use Rattle.postcard_schema.specs.Lemmas.{content_at}
 use Rattle.postcard_schema.specs.Meaning.{MessageType, contents, group, no_types, choice, type_of, types_of, reads, reads_at}
 use Rattle.postcard_value_text.specs.Accepted.{AreNotCalled, HasDistinctNames, NamesDiffer}
-use Rattle.postcard_value_text.specs.Layout.{Layout, tuple, no_layouts, then_layout, fields_of, is_unit, layout_of}
+use Rattle.postcard_value_text.specs.Layout.{Layout, tuple, no_layouts, fields_of, is_unit, layout_of}
 use Rattle.postcard_value_text.specs.Layout as layouts
+use Rattle.postcard_value_text.proofs.Groups.{named_at}
 use Rattle.serde_json.specs.declared.value.Value as json
 use Rattle.serde_json.specs.Data.{Data, Members, object, string, no_members, member}
 use Rattle.serde_json.specs.Events.{members_len}
@@ -20,7 +22,7 @@ use Rattle.serde_json.proofs.Views.{Entry, member_here, member_later, get_member
 use Rattle.postcard_value_json.specs.Written.{alone}
 use Rattle.postcard_value_json_read.specs.Reading.{Reading, IsJsonOf, IsJsonAt, IsChoiceJson, IsVariantJson}
 use Rattle.postcard_value_json_read.specs.Accepted.{IsOnly, IsReading, IsContentReading, IsJsonOfVariant, IsNameIn}
-use Rattle.postcard_value_json_read.proofs.Groups.{named_at, some_is}
+use Rattle.postcard_value_json_read.proofs.Groups.{some_is}
 
 -- ---- names
 
@@ -39,8 +41,6 @@ variant_name n x R t d h = inr (h.0, h.1)
 
 -- An object with one member has no other.
 pub only : (es : List Entry) (name : List ℕ) (d : Data) → length es ≡ 1 → get_member name (members_view es) ≡ Some d → object (members_view es) ≡ alone name d
-only [] name d one found = absurd (omega (arith, one))
-only (e ∷ f ∷ es) name d one found = absurd (omega (arith, one))
 only (e ∷ []) name d one found = by (bytes_eq name (string_bytes e.0)) refl
   where
     by : (b : Bool) → bytes_eq name (string_bytes e.0) ≡ b → object (members_view (e ∷ [])) ≡ alone name d
@@ -52,6 +52,7 @@ only (e ∷ []) name d one found = by (bytes_eq name (string_bytes e.0)) refl
         let other : name ≡ string_bytes e.0 → ⊥ = λ same. true≢false (sym ((bytes_eq-Decides name (string_bytes e.0)).1 same) ∙ eq) in
         let none : None ≡ Some d = sym (member_later name e [] other) ∙ found in
         cc none
+only es name d one found = absurd (omega (arith, one))
 
 get_alone : (name : List ℕ) (e : Data) → get name (alone name e) ≡ Some e
 get_alone name e = get_member-put name e no_members
@@ -84,23 +85,19 @@ not_alone es name d e other is has = other (sym (members_len-members_view es) �
 -- The content of a variant: the unit, or another value in an object.
 pub unit_content : (n : List ℕ) (x : Layout) (R : Reading) (t : Tree) (d : Data) → is_unit x ≡ true → IsVariantJson n x R t d → (t ≡ nodes.Group NoTrees) × (d ≡ string n)
 unit_content n (tuple no_layouts) R t d unit h = h
-unit_content n (tuple (then_layout x xs)) R t d unit h = cc unit
 unit_content n x R t d unit h = cc unit
 
 content_unit : (n : List ℕ) (x : Layout) (R : Reading) (d : Data) → is_unit x ≡ true → d ≡ string n → IsVariantJson n x R (nodes.Group NoTrees) d
 content_unit n (tuple no_layouts) R d unit is = (refl, is)
-content_unit n (tuple (then_layout x xs)) R d unit is = cc unit
 content_unit n x R d unit is = cc unit
 
 -- The JSON of a variant whose content isn't the unit is an object of the name and the content.
 pub other_content : (n : List ℕ) (x : Layout) (R : Reading) (t : Tree) (d : Data) → is_unit x ≡ false → IsVariantJson n x R t d → (e : Data) × (d ≡ alone n e) × R t e
 other_content n (tuple no_layouts) R t d full h = cc full
-other_content n (tuple (then_layout x xs)) R t d full h = h
 other_content n x R t d full h = h
 
 content_other : (n : List ℕ) (x : Layout) (R : Reading) (t : Tree) (d e : Data) → is_unit x ≡ false → d ≡ alone n e → R t e → IsVariantJson n x R t d
 content_other n (tuple no_layouts) R t d e full is h = cc full
-content_other n (tuple (then_layout x xs)) R t d e full is h = (e, is, h)
 content_other n x R t d e full is h = (e, is, h)
 
 -- A string that is a variant's name denotes only that variant.
@@ -193,9 +190,7 @@ one_index ns k u d differ found first f =
     omega (arith, not_after, not_before)
 
 same_variant : (ns : List (Named Schema)) (i : ℕ) (n z : Named Schema) → i < length ns → n ≡ get_or ns i n → z ≡ get_or ns i z → z ≡ n
-same_variant [] i n z low here there = absurd (omega (arith, low))
-same_variant (m ∷ ns) zero n z low here there = there ∙ sym here
-same_variant (m ∷ ns) (suc i) n z low here there = same_variant ns i n z (omega (arith, low)) here there
+same_variant ns i n z low here there = there ∙ get_or_default ns i z n low ∙ sym here
 
 -- What is read as a variant is read as the variant at the index that was found.
 pub variant_by : (ns : List (Named Schema)) (k : ℕ) (n : Named Schema) (u : Tree) (d : Data) → k < length ns → n ≡ get_or ns k n → (f : VariantForm ns u d) → k ≡ f.index
@@ -213,7 +208,7 @@ variant_only ns k n t d small low here found first (h, one) = (
   λ names u r.
       let f = variant_form ns u d r in
       let at : k ≡ f.index = one_index ns k u d names.0 found first f in
-      let content : f.content ≡ t = one (named_at ns k n names.1 low here) f.content (variant_by ns k n u d low here f at) in
+      let content : f.content ≡ t = one (named_at ns k n low here names.1).1 f.content (variant_by ns k n u d low here f at) in
       f.is ∙ ap₂ nodes.Variant (sym at) content,
 )
 

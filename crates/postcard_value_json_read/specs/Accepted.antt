@@ -10,13 +10,10 @@ use Rattle.postcard_value.specs.Tree.{tree}
 use Rattle.postcard_value_text.specs.Accepted.{HasDistinctNames}
 use Rattle.postcard_value_text.specs.Layout.{Layout, Layouts, Fields, layout_of}
 use Rattle.serde_json.specs.Data.{Data, Items, string}
-use Rattle.serde_json.specs.Data as values
-use Rattle.serde_json.specs.Events.{items_len}
-use Rattle.serde_json.specs.Find.{get_item}
-use Rattle.postcard_value_json.specs.Written.{alone}
+use Rattle.postcard_value_json.specs.Written.{alone, can_be_null}
 use Rattle.postcard_value_json_read.specs.declared.error.JsonError.{JsonError}
 use Rattle.postcard_value_json_read.specs.declared.error.JsonError.TheVariants.{OutOfMemory}
-use Rattle.postcard_value_json_read.specs.Reading.{Reading, IsJsonOf, IsEntryJson, IsVariantJson, AreParts, AreFields, IsMember}
+use Rattle.postcard_value_json_read.specs.Reading.{Reading, IsJsonOf, IsEntryJson, IsOptionJson, IsVariantJson, AreParts, AreFields, IsMember}
 
 -- The tree of an entry of a map.
 abbrev pub entry_tree : Tree → Tree → Tree
@@ -34,9 +31,9 @@ IsReading m x = IsBoth (reads m) (IsJsonOf x)
 abbrev pub IsEntryReading : (key : MessageType) → Layout → (value : MessageType) → Layout → Reading
 IsEntryReading k x v y = IsBoth (reads (entry_of k v)) (IsEntryJson (IsJsonOf x) (IsJsonOf y))
 
--- The JSON is an array of two items. The one at this index is read as the tree.
-abbrev pub IsHalfReading : ℕ → MessageType → Layout → Reading
-IsHalfReading half m x t d = (ds : Items) × (d ≡ values.array ds) × (items_len ds ≡ 2) × (e : Data) × (get_item half ds ≡ Some e) × IsReading m x t e
+-- The JSON of an option is read as the tree of the value in it.
+abbrev pub IsHeldReading : MessageType → Layout → Reading
+IsHeldReading m x t d = reads m t × IsOptionJson (can_be_null x) (IsJsonOf x) (nodes.Present t) d
 
 -- The trees are those of the types of a tuple, and the items are read as them.
 abbrev pub ArePartsReading : MessageTypes → Layouts → Trees → Items → Type 0

@@ -28,7 +28,7 @@ pub use Rattle.postcard_value_text.specs.Layout.{fields_of, layout_of, layouts_o
 pub use Rattle.postcard_value_text.specs.Layout.{leaf as leaf_layout}
 pub use Rattle.postcard_value_json.specs.Written.{alone, json_of}
 pub use Rattle.postcard_value_json_read.specs.Accepted.{Answers, AreFieldsReading, ArePartsReading}
-pub use Rattle.postcard_value_json_read.specs.Accepted.{Finds, IsContentReading, IsHalfReading}
+pub use Rattle.postcard_value_json_read.specs.Accepted.{Finds, IsContentReading, IsHeldReading}
 pub use Rattle.postcard_value_json_read.specs.Accepted.{IsJsonOfVariant, IsMemberReading, IsNameIn}
 pub use Rattle.postcard_value_json_read.specs.Accepted.{IsReading, Reads, entry_tree}
 pub use Rattle.postcard_value_json_read.specs.Lines.{AreLines, IsLine}
@@ -40,7 +40,7 @@ pub use Rattle.postcard_value_json_read.specs.Printed.{colon_after, expected_tex
 pub use Rattle.postcard_value_json_read.specs.Printed.{members_text, text_error_text}
 pub use Rattle.postcard_value_json_read.specs.Reading.{AreItems, HasMembers, IsBitsJson}
 pub use Rattle.postcard_value_json_read.specs.Reading.{IsFloatJson, IsJsonOf, IsJsonText}
-pub use Rattle.postcard_value_json_read.specs.Reading.{IsSignedJson, IsUnsignedJson, bits_near}
+pub use Rattle.postcard_value_json_read.specs.Reading.{IsSignedJson, IsUnsignedJson, bits_near, pair}
 pub use Rattle.postcard_value_json_read.specs.Values.{AreQuoted, EndsScalar, IsEndOf, IsNested}
 pub use Rattle.postcard_value_json_read.specs.Values.{IsScalar, IsString, IsValue, ends_scalar}
 pub use Rattle.postcard_value_json_read.specs.Values.{is_closing, is_opening}

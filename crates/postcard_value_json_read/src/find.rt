@@ -7,7 +7,7 @@ ghost use Rattle.postcard_value_json_read.specs.{IsJsonOfVariant};
 ghost use Rattle.postcard_value_json_read.specs.{IsLengthError, IsNameIn, IsNewTo, IsTakenIn};
 ghost use Rattle.postcard_value_json_read.specs.{Items};
 ghost use Rattle.postcard_value_json_read.specs.{Named, Schema, Tree, alone, get, items_len};
-ghost use Rattle.postcard_value_json_read.specs.{items_view, string, view};
+ghost use Rattle.postcard_value_json_read.specs.{items_view, pair, string, view};
 ghost use Rattle.serde_json.specs.Data as values;
 
 use crate::error::{Expected, JsonError};
@@ -30,6 +30,18 @@ pub(crate) fn items_in<'a>(json: &'a Json, count: usize) -> Option<&'a Vec<Json>
         return None;
     }
     Some(items)
+}
+
+/// Returns the two items of an array of two, or `None` if the JSON isn't one.
+pub(crate) fn pair_in<'a>(json: &'a Json) -> Option<(&'a Json, &'a Json)>
+    ensures found { IfSome result (λ items. view json.now ≡ pair (view items.0.now)
+        (view items.1.now)) }
+    ensures none { IfNone result ((d e : Data) → view json.now ≡ pair d e → ⊥) }
+{
+    match items_in(json, 2) {
+        Some(items) => Some((&items[0], &items[1])),
+        None => None,
+    }
 }
 
 /// Returns whether the JSON is an object with this number of members.

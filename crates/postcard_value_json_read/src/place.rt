@@ -73,7 +73,8 @@ fn from_member<'a>(alloc: Global, object: &'a [u8], name: &[u8]) -> Result<&'a [
     let mut found = object;
     let mut rest = object;
     let _ = take(&mut rest, b'{');
-    'members: while !rest.is_empty() {
+    let mut more = true;
+    'members: while more {
         let key = take_string(&mut rest);
         if !take(&mut rest, b':') {
             return Ok(found);
@@ -83,9 +84,7 @@ fn from_member<'a>(alloc: Global, object: &'a [u8], name: &[u8]) -> Result<&'a [
             found = rest;
         }
         rest = after_value(rest);
-        if !take(&mut rest, b',') {
-            return Ok(found);
-        }
+        more = take(&mut rest, b',');
     }
     Ok(found)
 }

@@ -1,19 +1,20 @@
 //! Reading a value from JSON: [`from_json`]. The functions below it fail as it does.
 
-ghost use Rattle.std.specs.Prelude.{◌≡◌, ◌<◌, length, map, Some, IfOk, MatchResult};
+ghost use Rattle.std.specs.Prelude.{◌≡◌, length, map, Some, IfOk, MatchResult};
 ghost use Rattle.postcard_value_json_read.specs.{Answers, AreItems, ArePartsReading};
 ghost use Rattle.postcard_value_json_read.specs.{AreFieldsReading, AreNamed, HasDistinctNames};
 ghost use Rattle.postcard_value_json_read.specs.{HaveDistinctNames, IsContentReading};
-ghost use Rattle.postcard_value_json_read.specs.{IsHalfReading, IsJsonOf, IsMemberReading};
-ghost use Rattle.postcard_value_json_read.specs.{IsReading, Present, Reads, Tree, contents};
-ghost use Rattle.postcard_value_json_read.specs.{entry_tree, fields_of, items_view, json_of};
+ghost use Rattle.postcard_value_json_read.specs.{IsHeldReading, IsJsonOf};
+ghost use Rattle.postcard_value_json_read.specs.{IsMemberReading, IsReading, Present, Reads, Tree};
+ghost use Rattle.postcard_value_json_read.specs.{contents, entry_tree, fields_of};
+ghost use Rattle.postcard_value_json_read.specs.{items_view, json_of};
 ghost use Rattle.postcard_value_json_read.specs.{layout_of, layouts_of, reads, tree, trees};
 ghost use Rattle.postcard_value_json_read.specs.{type_of, types_of, view};
 ghost use Rattle.postcard_schema.specs.Meaning as types;
 ghost use Rattle.postcard_value_text.specs.Layout as layouts;
 
 use crate::error::{Expected, JsonError, push};
-use crate::find::{has_members, index_of, is_text, items_in, length_error, only_member};
+use crate::find::{has_members, index_of, is_text, items_in, length_error, only_member, pair_in};
 use crate::leaf::read_leaf;
 use postcard_schema::{Field, Schema, Step, Variant};
 use postcard_value::value::Value;
@@ -61,8 +62,11 @@ fn read<'a>(alloc: Global, schema: &'a Schema, json: &'a Json) -> Result<Value, 
             let mut entries = Vec::new(alloc);
             for (i, item) in items.iter().enumerate() {
                 let step = Step::Element(i as u64);
-                let first = read_half(alloc, key, item, 0, step)?;
-                let second = read_half(alloc, value, item, 1, step)?;
+                let Some((first, second)) = pair_in(item) else {
+                    return Err(JsonError::here(alloc, Expected::ArrayOf(2)).within(step));
+                };
+                let first = read_half(alloc, key, first, 0, step)?;
+                let second = read_half(alloc, value, second, 1, step)?;
                 let entry = make_entry(alloc, first, second)?;
                 push(&mut entries, entry)?;
             }
@@ -103,15 +107,23 @@ fn read_option<'a>(
     if json.is_null() {
         return Ok(Value::Absent);
     }
+    let value = read_held(alloc, content, json)?;
+    present(alloc, value)
+}
+
+/// Reads the value in an option from the option's JSON.
+#[cycle(read)]
+fn read_held<'a>(alloc: Global, content: &'a Schema, json: &'a Json) -> Result<Value, JsonError<'a>>
+    ensures { Answers (HasDistinctNames (layout_of content.now)) tree
+        (IsHeldReading (type_of content.now) (layout_of content.now)) (view json.now) result }
+{
     if !may_be_null(content) {
-        let value = read(alloc, content, json)?;
-        return present(alloc, value);
+        return read(alloc, content, json);
     }
     let Some(held) = only_member(json, "Some") else {
         return Err(JsonError::here(alloc, Expected::Option));
     };
-    let value = read_part(alloc, content, held, Step::Name("Some"))?;
-    present(alloc, value)
+    read_part(alloc, content, held, Step::Name("Some"))
 }
 
 /// Returns an option with this value.
@@ -175,24 +187,19 @@ fn read_items<'a>(
     Ok(values)
 }
 
-/// Reads the key of an entry of a map, if `half` is 0, or the value, if it is 1. The step leads to
+/// Reads the half of an entry at this index: 0 for the key, and 1 for the value. The step leads to
 /// the entry.
 #[cycle(read)]
 fn read_half<'a>(
     alloc: Global,
     schema: &'a Schema,
-    entry: &'a Json,
-    half: usize,
+    half: &'a Json,
+    index: u64,
     step: Step<'a>,
 ) -> Result<Value, JsonError<'a>>
-    requires { half < 2 }
-    ensures { Answers (HasDistinctNames (layout_of schema.now)) tree
-        (IsHalfReading half (type_of schema.now) (layout_of schema.now)) (view entry.now) result }
+    ensures { Reads (type_of schema.now) (layout_of schema.now) (view half.now) result }
 {
-    let Some(pair) = items_in(entry, 2) else {
-        return Err(JsonError::here(alloc, Expected::ArrayOf(2)).within(step));
-    };
-    match read_part(alloc, schema, &pair[half], Step::Element(half as u64)) {
+    match read_part(alloc, schema, half, Step::Element(index)) {
         Ok(value) => Ok(value),
         Err(error) => Err(error.within(step)),
     }

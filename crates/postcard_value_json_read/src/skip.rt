@@ -59,17 +59,19 @@ fn after_nested(text: &[u8]) -> &[u8]
         → result.now ≡ rest }
     ensures end { IsEndOf text.now result.now }
 {
-    let mut left = text;
-    let mut depth = 0usize;
-    'pieces: while let Some((byte, rest)) = left.split_first() {
+    let Some((first, mut left)) = text.split_first() else {
+        return text;
+    };
+    let mut depth = depth_after(0, *first);
+    'pieces: while depth != 0 {
+        let Some((byte, rest)) = left.split_first() else {
+            return left;
+        };
         if *byte == b'"' {
             left = after_string(left);
         } else {
             left = rest;
             depth = depth_after(depth, *byte);
-        }
-        if depth == 0 {
-            return left;
         }
     }
     left

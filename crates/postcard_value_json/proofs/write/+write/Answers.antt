@@ -1,5 +1,5 @@
 -- The mutually recursive writers of JSON, by the kind of the schema. The JSON of a whole is made of that of its parts in order.
-use Rattle.std.proofs.Common.{◌≡◌, ◌<◌, true, false, [], ◌∷◌, map, take, length, vec_len, get_or, string_bytes, Some, is_some, nat_cmp, sym, ap, ◌∙◌, add-one, take_all, arith, rules}
+use Rattle.std.proofs.Common.{◌≡◌, ◌<◌, true, false, [], ◌∷◌, map, length, vec_len, get_or, string_bytes, Some, is_some, nat_cmp, sym, ap, ◌∙◌, add-one, arith, rules}
 use Rattle.std.specs.Bool.{◌==◌}
 use Rattle.std.specs.BTreeMap.{is_at}
 use Rattle.std.specs.Cmp.Lexicographic.{slice_cmp}
@@ -60,9 +60,8 @@ write_list-loop-item-preserved t c =
 pub write_list-returns : goal.write_list-returns
 write_list-returns t c =
     let l = c.loop-item in
-    let xs = c.deref-item-items.result.now in
-    let whole : take l.item-index xs ≡ xs = take_all l.item-index xs (omega arith) in
-    list_whole (json_of (layout_of c.args.element.now)) (take l.item-index xs) c.args.items.now.items l.all (whole ∙ c.deref-item-items.ensures.value) l.invariant
+    let items = c.deref-item-items in
+    list_whole (json_of (layout_of c.args.element.now)) items.result.now c.args.items.now.items l.item-index l.all (omega arith) items.ensures.value l.invariant
 
 pub write_map-loop-item-preserved : goal.write_map-loop-item-preserved
 write_map-loop-item-preserved t c =
@@ -75,9 +74,9 @@ write_map-loop-item-preserved t c =
 pub write_map-returns : goal.write_map-returns
 write_map-returns t c =
     let l = c.loop-item in
-    let xs = c.deref-item-items.result.now in
-    let whole : take l.item-index xs ≡ xs = take_all l.item-index xs (omega arith) in
-    list_whole (entry_json (json_of (layout_of c.args.key.now)) (json_of (layout_of c.args.content.now))) (take l.item-index xs) c.args.items.now.items l.all (whole ∙ c.deref-item-items.ensures.value) l.invariant
+    let items = c.deref-item-items in
+    let entry = entry_json (json_of (layout_of c.args.key.now)) (json_of (layout_of c.args.content.now)) in
+    list_whole entry items.result.now c.args.items.now.items l.item-index l.all (omega arith) items.ensures.value l.invariant
 
 pub write_entry-returns : goal.write_entry-returns
 write_entry-returns t c =
@@ -113,9 +112,7 @@ write_tuple-returns-then-is_empty t c =
     let ss = c.args.parts.now.items in
     let xs = c.deref-item-items.result.now in
     let long : length ss ≡ length xs = grind (arith, common_steps) in
-    let left : take l.i ss ≡ ss = take_all l.i ss (omega (arith, long)) in
-    let whole : take l.i xs ≡ xs = take_all l.i xs (omega arith) in
-    let all = parts_whole (take l.i ss) ss (take l.i xs) c.args.items.now.items (map view l.all.items) left (whole ∙ c.deref-item-items.ensures.value) l.invariant in
+    let all = parts_whole ss xs c.args.items.now.items l.i (map view l.all.items) (omega (arith, long)) (omega arith) c.deref-item-items.ensures.value l.invariant in
     let n : vec_len l.all ≡ length l.all.items = grind (arith, common_steps) in
     let none : (length l.all.items == 0) ≡ true = ap (λ k. k == 0) (sym n) ∙ sym c.is_empty.ensures ∙ c.if-is_empty.true in
     let seen : view json.Null ≡ null = search (rules, json.the_lemmas) in
@@ -127,9 +124,7 @@ write_tuple-returns t c =
     let ss = c.args.parts.now.items in
     let xs = c.deref-item-items.result.now in
     let long : length ss ≡ length xs = grind (arith, common_steps) in
-    let left : take l.i ss ≡ ss = take_all l.i ss (omega (arith, long)) in
-    let whole : take l.i xs ≡ xs = take_all l.i xs (omega arith) in
-    let all = parts_whole (take l.i ss) ss (take l.i xs) c.args.items.now.items (map view l.all.items) left (whole ∙ c.deref-item-items.ensures.value) l.invariant in
+    let all = parts_whole ss xs c.args.items.now.items l.i (map view l.all.items) (omega (arith, long)) (omega arith) c.deref-item-items.ensures.value l.invariant in
     let n : vec_len l.all ≡ length l.all.items = grind (arith, common_steps) in
     let full : (length l.all.items == 0) ≡ false = ap (λ k. k == 0) (sym n) ∙ sym c.is_empty.ensures ∙ c.if-is_empty.false in
     ap Some (view-Array l.all ∙ sym (row_full l.all.items full)) ∙ sym all
@@ -159,7 +154,5 @@ write_struct-returns t c =
     let ns = c.args.fields.now.items in
     let xs = c.deref-item-items.result.now in
     let long : length ns ≡ length xs = grind (arith, common_steps) in
-    let left : take l.i ns ≡ ns = take_all l.i ns (omega (arith, long)) in
-    let whole : take l.i xs ≡ xs = take_all l.i xs (omega arith) in
-    ap Some (view-Object l.members)
-    ∙ sym (fields_whole (take l.i ns) ns (take l.i xs) c.args.items.now.items (members_view l.members.entries) left (whole ∙ c.deref-item-items.ensures.value) l.invariant)
+    let done = members_view l.members.entries in
+    ap Some (view-Object l.members) ∙ sym (fields_whole ns xs c.args.items.now.items l.i done (omega (arith, long)) (omega arith) c.deref-item-items.ensures.value l.invariant)

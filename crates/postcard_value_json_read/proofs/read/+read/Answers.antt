@@ -1,6 +1,6 @@
 -- The mutually recursive readers of values from JSON, by the kind of the schema. A value that is read is the only one that the JSON
 -- denotes, and JSON that is refused denotes none (`Answered`). The answer of a whole is that of its parts in order.
-use Rattle.std.proofs.Common.{◌≡◌, None, Some, ◌+◌, ◌<◌, ◌^◌, ◌++◌, true, false, [], ◌∷◌, map, take, length, vec_len, get_or, codes, Vec, Global, sym, ap, subst, ◌∙◌, true≢false, take_all, arith, rules}
+use Rattle.std.proofs.Common.{◌≡◌, None, Some, ◌+◌, ◌<◌, ◌^◌, ◌++◌, true, false, [], ◌∷◌, map, take, length, vec_len, get_or, codes, Vec, Global, sym, ap, subst, ◌∙◌, true≢false, take_all, arith, rules, Bool}
 use Rattle.std.specs.Prelude.{is_some}
 use Rattle.std.specs.Bool.{◌==◌}
 use Rattle.std.proofs.lemmas.Bool.Decides.{Decides-ltb}
@@ -17,19 +17,18 @@ use Rattle.postcard_value.specs.declared.value.Value.{Value, Absent, Seq, Group,
 use Rattle.postcard_value_text.specs.Accepted.{AreNamed, HasDistinctNames, HaveDistinctNames}
 use Rattle.postcard_value_text.specs.Layout.{fields_of, layout_of, layouts_of}
 use Rattle.postcard_value_text.specs.Layout as layouts
+use Rattle.postcard_value_text.proofs.Groups.{distinct_at, named_at}
 use Rattle.postcard_value_text.proofs.Layouts.{layout_of_array, layout_of_enum, layout_of_map, layout_of_seq, layout_of_struct}
 use Rattle.serde_json.specs.Data as values
-use Rattle.serde_json.proofs.Views.{get_item_within, items_len-items_view}
-use Rattle.serde_json.specs.Events.{items_len}
-use Rattle.serde_json.specs.Find.{get, get_item}
+use Rattle.serde_json.specs.Find.{get}
 use Rattle.serde_json.specs.View.{view, items_view}
 use Rattle.postcard_value_json.specs.Written.{can_be_null}
-use Rattle.postcard_value_json_read.specs.Reading.{AreItems, IsEntryJson, IsJsonOf}
-use Rattle.postcard_value_json_read.specs.Accepted.{AreFieldsReading, ArePartsReading, IsContentReading, IsEntryReading, IsMemberReading, IsOnly, IsReading, Reads}
+use Rattle.postcard_value_json_read.specs.Reading.{AreItems, IsEntryJson, IsJsonOf, IsOptionJson, Reading}
+use Rattle.postcard_value_json_read.specs.Accepted.{Answers, ArePartsReading, IsContentReading, IsEntryReading, IsMemberReading, IsOnly, IsReading, Reads}
 use Rattle.postcard_value_json_read.proofs.Forms.{null_is, not_null_is, array_is, no_array}
 use Rattle.postcard_value_json_read.proofs.Ends.{none_left}
-use Rattle.postcard_value_json_read.proofs.Answered.{absent_only, nullable_only, plain_only, nullable_by, plain_by, items_more, items_only, item_at, items_count, list_form, list_only, list_other, array_form, array_only, array_other, passed, boxed, answer_by}
-use Rattle.postcard_value_json_read.proofs.Groups.{distinct_at, field_at, fields_more, fields_only, half_answer, half_from, halves_only, key_half, member_from, named_at, part_at, parts_more, parts_only, same_items, struct_form, struct_only, tuple_form, tuple_only, value_half}
+use Rattle.postcard_value_json_read.proofs.Answered.{absent_only, held_answer, held_form, held_only, is_err, items_more, items_only, item_at, items_count, map_item, list_form, list_only, list_other, array_form, array_only, array_other, boxed, answer_by}
+use Rattle.postcard_value_json_read.proofs.Groups.{entry_at, entry_form, entry_only, field_at, fields_more, fields_only, member_from, part_at, parts_more, parts_only, same_items, struct_form, struct_only, tuple_form, tuple_only}
 use Rattle.postcard_value_json_read.proofs.Variants.{content_from, content_to, one_index, other_content, same_content, unit_content, unit_only, variant_by, variant_form, variant_only}
 use Rattle.postcard_value_json_read.proofs.read.+read.Goals as goal
 
@@ -62,51 +61,37 @@ read_option-returns-then-is_null t c =
 pub read_option-returns-in_err-value : goal.read_option-returns-in_err-value
 read_option-returns-in_err-value t c =
     let d = view c.args.json.now in
-    let m = type_of c.args.content.now in
-    let x = layout_of c.args.content.now in
     let full = not_null_is d (sym c.is_null.ensures ∙ c.if-is_null.false) in
-    let plain : can_be_null x ≡ false = sym c.may_be_null.ensures ∙ c.if-not-may_be_null.true in
-    passed (HasDistinctNames x) tree (IsReading (types.option m) (layouts.option x)) d c.from_residual.result _ c.from_residual.ensures.1 (λ names u r. plain_by _ m x u d plain full (c.in_err-value.ensures names) r)
-
-pub read_option-returns-then-not-may_be_null : goal.read_option-returns-then-not-may_be_null
-read_option-returns-then-not-may_be_null t c =
-    let d = view c.args.json.now in
-    let m = type_of c.args.content.now in
-    let x = layout_of c.args.content.now in
-    let v = c.in_ok-value.value in
-    let full = not_null_is d (sym c.is_null.ensures ∙ c.if-is_null.false) in
-    let plain : can_be_null x ≡ false = sym c.may_be_null.ensures ∙ c.if-not-may_be_null.true in
-    boxed (HasDistinctNames x) (IsReading (types.option m) (layouts.option x)) (nodes.Present (tree v)) d c.present.result c.present.ensures (plain_only m x (tree v) d plain full c.in_ok-value.ensures)
-
-pub read_option-returns-in_default : goal.read_option-returns-in_default
-read_option-returns-in_default t c =
-    let d = view c.args.json.now in
-    let m = type_of c.args.content.now in
-    let x = layout_of c.args.content.now in
-    let full = not_null_is d (sym c.is_null.ensures ∙ c.if-is_null.false) in
-    let may : can_be_null x ≡ true = sym c.may_be_null.ensures ∙ c.if-not-may_be_null.false in
-    λ names u r. nullable_by _ m x u d may full (λ s e has h. absurd (c.in_default.ensures.none e has)) r
-
-pub read_option-returns-in_err-value-2 : goal.read_option-returns-in_err-value-2
-read_option-returns-in_err-value-2 t c =
-    let d = view c.args.json.now in
-    let m = type_of c.args.content.now in
-    let x = layout_of c.args.content.now in
-    let full = not_null_is d (sym c.is_null.ensures ∙ c.if-is_null.false) in
-    let may : can_be_null x ≡ true = sym c.may_be_null.ensures ∙ c.if-not-may_be_null.false in
-    passed (HasDistinctNames x) tree (IsReading (types.option m) (layouts.option x)) d c.from_residual-in_err-value-2.result _ c.from_residual-in_err-value-2.ensures.1 (λ names u r.
-    nullable_by _ m x u d may full (λ s e has h.
-    c.in_err-value-2.ensures names s (subst (IsReading m x s) (same_content (codes "Some") e (view c.in-Some.held.now) (sym has ∙ c.in-Some.ensures.found)) h)) r)
+    rw (is_err c.from_residual.result _ c.from_residual.ensures.1)
+    (λ names u r. let k = held_form (type_of c.args.content.now) (layout_of c.args.content.now) u d full r in c.in_err-value.ensures names k.0 k.2)
 
 pub read_option-returns : goal.read_option-returns
 read_option-returns t c =
     let d = view c.args.json.now in
     let m = type_of c.args.content.now in
     let x = layout_of c.args.content.now in
-    let v = c.in_ok-value-2.value in
+    let v = tree c.in_ok-value.value in
+    let full = not_null_is d (sym c.is_null.ensures ∙ c.if-is_null.false) in
+    boxed (HasDistinctNames x) (IsReading (types.option m) (layouts.option x)) (nodes.Present v) d c.present.result c.present.ensures (held_only m x v d full c.in_ok-value.ensures)
+
+pub read_held-returns-then-not-may_be_null : goal.read_held-returns-then-not-may_be_null
+read_held-returns-then-not-may_be_null t c =
+    let x = layout_of c.args.content.now in
+    let plain : can_be_null x ≡ false = sym c.may_be_null.ensures ∙ c.if-not-may_be_null.true in
+    let R : Bool → Reading = λ b s e. reads (type_of c.args.content.now) s × IsOptionJson b (IsJsonOf x) (nodes.Present s) e in
+    subst (λ b. Answers (HasDistinctNames x) tree (R b) (view c.args.json.now) c.read.result) (sym plain) c.read.ensures
+
+pub read_held-returns-in_default : goal.read_held-returns-in_default
+read_held-returns-in_default t c =
+    let x = layout_of c.args.content.now in
     let may : can_be_null x ≡ true = sym c.may_be_null.ensures ∙ c.if-not-may_be_null.false in
-    boxed (HasDistinctNames x) (IsReading (types.option m) (layouts.option x)) (nodes.Present (tree v)) d c.present-2.result c.present-2.ensures
-    (nullable_only m x (tree v) d (view c.in-Some.held.now) may c.in-Some.ensures.found c.in_ok-value-2.ensures)
+    λ names u r. let k = subst (λ b. IsOptionJson b (IsJsonOf x) (nodes.Present u) (view c.args.json.now)) may r.1 in absurd (c.in_default.ensures.none k.0 k.1)
+
+pub read_held-returns : goal.read_held-returns
+read_held-returns t c =
+    let s = c.args.content.now in
+    let may : can_be_null (layout_of s) ≡ true = sym c.may_be_null.ensures ∙ c.if-not-may_be_null.false in
+    held_answer (type_of s) (layout_of s) (view c.args.json.now) (view c.in-Some.held.now) c.read_part.result may c.in-Some.ensures.found c.read_part.ensures
 
 -- ---- lists and arrays
 
@@ -120,12 +105,11 @@ read_list-returns-in_default t c =
 pub read_list-returns-in_err-values : goal.read_list-returns-in_err-values
 read_list-returns-in_err-values t c =
     let d = view c.args.json.now in
-    let m = type_of c.args.element.now in
     let x = layout_of c.args.element.now in
     let ds = items_view c.in-Some.items.now.items in
     let form : d ≡ values.array ds = array_is d ds (rw c.in-Some.is at c.as_array.ensures) in
-    passed (HasDistinctNames x) tree (IsReading (types.seq m) (layouts.list x)) d c.from_residual.result _ c.from_residual.ensures.1 (λ names u r.
-    let k = list_form (reads m) (IsJsonOf x) u ds (subst (IsReading (types.seq m) (layouts.list x) u) form r) in c.in_err-values.ensures names k.0 k.2)
+    rw (is_err c.from_residual.result _ c.from_residual.ensures.1) (λ names u r.
+    let k = list_form (reads (type_of c.args.element.now)) (IsJsonOf x) u ds (rw form at r) in c.in_err-values.ensures names k.0 k.2)
 
 pub read_list-returns : goal.read_list-returns
 read_list-returns t c =
@@ -149,12 +133,11 @@ read_array-returns-in_default t c =
 pub read_array-returns-in_err-values : goal.read_array-returns-in_err-values
 read_array-returns-in_err-values t c =
     let d = view c.args.json.now in
-    let m = type_of c.args.element.now in
     let x = layout_of c.args.element.now in
     let ds = items_view c.in-Some.items.now.items in
     let form : d ≡ values.array ds = array_is d ds (rw c.in-Some.is at c.as_array.ensures) in
-    passed (HasDistinctNames x) tree (IsReading (types.array c.args.count m) (layouts.array x)) d c.from_residual.result _ c.from_residual.ensures.1 (λ names u r.
-    let k = array_form (reads m) (IsJsonOf x) c.args.count u ds (subst (IsReading (types.array c.args.count m) (layouts.array x) u) form r) in c.in_err-values.ensures names k.0 k.3)
+    rw (is_err c.from_residual.result _ c.from_residual.ensures.1) (λ names u r.
+    let k = array_form (reads (type_of c.args.element.now)) (IsJsonOf x) c.args.count u ds (rw form at r) in c.in_err-values.ensures names k.0 k.3)
 
 pub read_array-returns-then-len-count : goal.read_array-returns-then-len-count
 read_array-returns-then-len-count t c =
@@ -165,7 +148,7 @@ read_array-returns-then-len-count t c =
     let ds = items_view c.in-Some.items.now.items in
     let form : d ≡ values.array ds = array_is d ds (rw c.in-Some.is at c.as_array.ensures) in
     λ names u r.
-    let k = array_form (reads m) (IsJsonOf x) c.args.count u ds (subst (IsReading (types.array c.args.count m) (layouts.array x) u) form r) in
+    let k = array_form (reads m) (IsJsonOf x) c.args.count u ds (rw form at r) in
     let long : length v.items ≡ c.args.count =
     sym (elements_count tree v.items) ∙ items_count (IsReading m x) (trees (map tree v.items)) ds c.in_ok-values.ensures.0 ∙ sym (items_count (IsReading m x) k.0 ds k.3) ∙ k.2 in
     absurd (grind (arith, common_steps, long))
@@ -191,16 +174,14 @@ pub read_items-returns-in_err-value : goal.read_items-returns-in_err-value
 read_items-returns-in_err-value t c =
     let m = type_of c.args.element.now in
     let x = layout_of c.args.element.now in
-    let xs = c.deref-item-items.result.now in
-    passed (HasDistinctNames x) (λ (v : Vec Value Global). trees (map tree v.items)) (AreItems (IsReading m x)) (items_view c.args.items.now.items) c.from_residual.result _ c.from_residual.ensures.1 (λ names us h.
+    rw (is_err c.from_residual.result _ c.from_residual.ensures.1) (λ names us h.
     let all = subst (λ ys. AreItems (IsReading m x) us (items_view ys)) (sym c.deref-item-items.ensures.value) h in
-    let k = item_at (IsReading m x) us xs c.loop-i.i c.item-item.result all (omega arith) c.item-item.is in
+    let k = item_at (IsReading m x) us c.deref-item-items.result.now c.loop-i.i c.item-item.result all (omega arith) c.item-item.is in
     c.in_err-value.ensures names k.0 k.1)
 
 pub read_items-returns-in_err-push : goal.read_items-returns-in_err-push
 read_items-returns-in_err-push t c =
-    let x = layout_of c.args.element.now in
-    passed (HasDistinctNames x) (λ (v : Vec Value Global). trees (map tree v.items)) (AreItems (IsReading (type_of c.args.element.now) x)) (items_view c.args.items.now.items) c.from_residual-in_err-push.result _ c.from_residual-in_err-push.ensures.1 (λ names u r. c.in_err-push.ensures.only_out_of_memory)
+    rw (is_err c.from_residual-in_err-push.result _ c.from_residual-in_err-push.ensures.1) (λ names u r. c.in_err-push.ensures.only_out_of_memory)
 
 pub read_items-loop-i-preserved : goal.read_items-loop-i-preserved
 read_items-loop-i-preserved t c =
@@ -226,82 +207,63 @@ read_items-returns t c =
 
 pub read-returns-in_default : goal.read-returns-in_default
 read-returns-in_default t c =
-    let d = view c.args.json.now in
     let k = c.in-Map.key in
     let v = c.in-Map.value in
+    let E = IsEntryJson (IsJsonOf (layout_of k.value)) (IsJsonOf (layout_of v.value)) in
     rw (c.in-Map.is, type_of_map k v, layout_of_map k v)
-    (λ names u r. absurd (list_other (reads (entry_of (type_of k.value) (type_of v.value))) (IsEntryJson (IsJsonOf (layout_of k.value)) (IsJsonOf (layout_of v.value))) u d (λ ds is. no_array d ds (rw c.in_default.is at c.as_array.ensures) is) r))
+    (λ names u r. absurd (list_other (reads (entry_of (type_of k.value) (type_of v.value))) E u (view c.args.json.now) (λ ds is. no_array _ ds (rw c.in_default.is at c.as_array.ensures) is) r))
 
 pub read-loop-i-init : goal.read-loop-i-init
 read-loop-i-init t c = rw c.new-entries.ensures.items tt
 
-pub read-returns-in_err-first-in-Map : goal.read-returns-in_err-first-in-Map
-read-returns-in_err-first-in-Map t c =
-    let d = view c.args.json.now in
+pub read-returns-in_default-pair_in : goal.read-returns-in_default-pair_in
+read-returns-in_default-pair_in t c =
     let k = c.in-Map.key in
     let v = c.in-Map.value in
-    let E = IsEntryJson (IsJsonOf (layout_of k.value)) (IsJsonOf (layout_of v.value)) in
-    let R = IsEntryReading (type_of k.value) (layout_of k.value) (type_of v.value) (layout_of v.value) in
-    let x = layouts.mapping (layout_of k.value) (layout_of v.value) in
-    let W = IsReading (types.seq (entry_of (type_of k.value) (type_of v.value))) x in
-    let ds = items_view c.in-Some.items.now.items in
-    let form : d ≡ values.array ds = array_is d ds (rw c.in-Some.is at c.as_array.ensures) in
-    let xs = c.deref-item-items.result.now in
-    rw (c.in-Map.is, type_of_map k v, layout_of_map k v)
-    (passed (HasDistinctNames x) tree W d c.from_residual.result _ c.from_residual.ensures.1 (λ names u r.
-    let g = list_form (reads (entry_of (type_of k.value) (type_of v.value))) E u ds (subst (W u) form r) in
-    let all = subst (λ ys. AreItems R g.0 (items_view ys)) (sym c.deref-item-items.ensures.value) g.2 in
-    let here = item_at R g.0 xs c.loop-i.i c.item-item.result all (omega arith) c.item-item.is in
-    let half = key_half (type_of k.value) (layout_of k.value) (type_of v.value) (layout_of v.value) here.0 (view c.item-item.result) here.1 in
-    (rw c.deref-in-loop-i.ensures at c.in_err-first-in-Map.ensures) names.0 half.0 half.1))
+    let form = array_is (view c.args.json.now) (items_view c.in-Some.items.now.items) (rw c.in-Some.is at c.as_array.ensures) in
+    rw (c.in-Map.is, type_of_map k v, layout_of_map k v) (λ names u r.
+    let here = map_item _ _ _ _ u _ _ _ c.loop-i.i c.item-item.result r form c.deref-item-items.ensures.value (omega arith) c.item-item.is in
+    let m = entry_form _ _ _ _ here.0 _ here.1 in
+    absurd (c.in_default-pair_in.ensures.none m.2 m.3 m.5))
+
+pub read-returns-in_err-first-in-Map : goal.read-returns-in_err-first-in-Map
+read-returns-in_err-first-in-Map t c =
+    let k = c.in-Map.key in
+    let v = c.in-Map.value in
+    let form = array_is (view c.args.json.now) (items_view c.in-Some.items.now.items) (rw c.in-Some.is at c.as_array.ensures) in
+    rw (is_err c.from_residual.result _ c.from_residual.ensures.1, c.in-Map.is, type_of_map k v, layout_of_map k v) (λ names u r.
+    let here = map_item _ _ _ _ u _ _ _ c.loop-i.i c.item-item.result r form c.deref-item-items.ensures.value (omega arith) c.item-item.is in
+    let m = entry_at _ _ _ _ here.0 _ _ _ c.in-Some-pair_in.ensures.found here.1 in
+    (rw c.deref-in-loop-i.ensures at c.in_err-first-in-Map.ensures) names.0 m.0 m.3)
 
 pub read-returns-in_err-second-in-Map : goal.read-returns-in_err-second-in-Map
 read-returns-in_err-second-in-Map t c =
-    let d = view c.args.json.now in
     let k = c.in-Map.key in
     let v = c.in-Map.value in
-    let E = IsEntryJson (IsJsonOf (layout_of k.value)) (IsJsonOf (layout_of v.value)) in
-    let R = IsEntryReading (type_of k.value) (layout_of k.value) (type_of v.value) (layout_of v.value) in
-    let x = layouts.mapping (layout_of k.value) (layout_of v.value) in
-    let W = IsReading (types.seq (entry_of (type_of k.value) (type_of v.value))) x in
-    let ds = items_view c.in-Some.items.now.items in
-    let form : d ≡ values.array ds = array_is d ds (rw c.in-Some.is at c.as_array.ensures) in
-    let xs = c.deref-item-items.result.now in
-    rw (c.in-Map.is, type_of_map k v, layout_of_map k v)
-    (passed (HasDistinctNames x) tree W d c.from_residual-in_err-second-in-Map.result _ c.from_residual-in_err-second-in-Map.ensures.1 (λ names u r.
-    let g = list_form (reads (entry_of (type_of k.value) (type_of v.value))) E u ds (subst (W u) form r) in
-    let all = subst (λ ys. AreItems R g.0 (items_view ys)) (sym c.deref-item-items.ensures.value) g.2 in
-    let here = item_at R g.0 xs c.loop-i.i c.item-item.result all (omega arith) c.item-item.is in
-    let half = value_half (type_of k.value) (layout_of k.value) (type_of v.value) (layout_of v.value) here.0 (view c.item-item.result) here.1 in
-    (rw c.deref-in-loop-i-2.ensures at c.in_err-second-in-Map.ensures) names.1 half.0 half.1))
+    let form = array_is (view c.args.json.now) (items_view c.in-Some.items.now.items) (rw c.in-Some.is at c.as_array.ensures) in
+    let back = c.from_residual-in_err-second-in-Map in
+    rw (is_err back.result _ back.ensures.1, c.in-Map.is, type_of_map k v, layout_of_map k v) (λ names u r.
+    let here = map_item _ _ _ _ u _ _ _ c.loop-i.i c.item-item.result r form c.deref-item-items.ensures.value (omega arith) c.item-item.is in
+    let m = entry_at _ _ _ _ here.0 _ _ _ c.in-Some-pair_in.ensures.found here.1 in
+    (rw c.deref-in-loop-i-2.ensures at c.in_err-second-in-Map.ensures) names.1 m.1 m.4)
 
 pub read-returns-in_err-entry-in-Map : goal.read-returns-in_err-entry-in-Map
-read-returns-in_err-entry-in-Map t c =
-    let k = c.in-Map.key in
-    let v = c.in-Map.value in
-    let x = layouts.mapping (layout_of k.value) (layout_of v.value) in
-    rw (c.in-Map.is, type_of_map k v, layout_of_map k v)
-    (passed (HasDistinctNames x) tree (IsReading (types.seq (entry_of (type_of k.value) (type_of v.value))) x) (view c.args.json.now) c.from_residual-in_err-entry-in-Map.result _ c.from_residual-in_err-entry-in-Map.ensures.1 (λ names u r. c.in_err-entry-in-Map.ensures))
+read-returns-in_err-entry-in-Map t c = let back = c.from_residual-in_err-entry-in-Map in rw (is_err back.result _ back.ensures.1) (λ names u r. c.in_err-entry-in-Map.ensures)
 
 pub read-returns-in_err-push-in-Map : goal.read-returns-in_err-push-in-Map
 read-returns-in_err-push-in-Map t c =
-    let k = c.in-Map.key in
-    let v = c.in-Map.value in
-    let x = layouts.mapping (layout_of k.value) (layout_of v.value) in
-    rw (c.in-Map.is, type_of_map k v, layout_of_map k v)
-    (passed (HasDistinctNames x) tree (IsReading (types.seq (entry_of (type_of k.value) (type_of v.value))) x) (view c.args.json.now) c.from_residual-in_err-push-in-Map.result _ c.from_residual-in_err-push-in-Map.ensures.1 (λ names u r. c.in_err-push-in-Map.ensures.only_out_of_memory))
+    let back = c.from_residual-in_err-push-in-Map in
+    rw (is_err back.result _ back.ensures.1) (λ names u r. c.in_err-push-in-Map.ensures.only_out_of_memory)
 
 pub read-loop-i-preserved : goal.read-loop-i-preserved
 read-loop-i-preserved t c =
     let l = c.loop-i in
     let xs = c.deref-item-items.result.now in
     let j = c.item-item.result in
-    let k = c.in-Map.key in
-    let v = c.in-Map.value in
-    let R = IsOnly (HasDistinctNames (layout_of k.value) × HasDistinctNames (layout_of v.value)) (IsEntryReading (type_of k.value) (layout_of k.value) (type_of v.value) (layout_of v.value)) in
-    let first = c.in_ok-first-in-Map.first in
-    let second = c.in_ok-second-in-Map.second in
-    let both = halves_only (type_of k.value) (layout_of k.value) (type_of v.value) (layout_of v.value) (tree first) (tree second) (view j)
+    let k = c.in-Map.key.value in
+    let v = c.in-Map.value.value in
+    let R = IsOnly (HasDistinctNames (layout_of k) × HasDistinctNames (layout_of v)) (IsEntryReading (type_of k) (layout_of k) (type_of v) (layout_of v)) in
+    let both = entry_only (type_of k) (layout_of k) (type_of v) (layout_of v) (tree c.in_ok-first-in-Map.first) (tree c.in_ok-second-in-Map.second) (view j) _ _ c.in-Some-pair_in.ensures.found
     (rw c.deref-in-loop-i.ensures at c.in_ok-first-in-Map.ensures) (rw c.deref-in-loop-i-2.ensures at c.in_ok-second-in-Map.ensures) in
     let next : take (l.i + 1) xs ≡ take l.i xs ++ j ∷ [] = take_more xs l.i j (omega arith) ∙ ap (λ z. take l.i xs ++ z ∷ []) (sym c.item-item.is) in
     rw (c.in_ok-push-in-Map.ensures.added, next) (items_more R l.entries.items (take l.i xs) c.in_ok-entry-in-Map.entry j l.invariant (subst (λ w. R w (view j)) (sym c.in_ok-entry-in-Map.ensures) both))
@@ -325,41 +287,8 @@ read-returns-after-loop-i t c =
     let all = items_only D R ts ds (subst (λ ys. AreItems (IsOnly D R) ts (items_view ys)) whole l.invariant) in
     rw (c.in-Map.is, type_of_map k v, layout_of_map k v, seen, form) (list_only (reads (entry_of (type_of k.value) (type_of v.value))) E D ts ds few all)
 
-pub read_half-returns-in_default : goal.read_half-returns-in_default
-read_half-returns-in_default t c = λ names u (ds, is, long, e, found, r). absurd (c.in_default.ensures.none ds is long)
-
-pub read_half-returns-in-Ok : goal.read_half-returns-in-Ok
-read_half-returns-in-Ok t c =
-    let d = view c.args.entry.now in
-    let x = layout_of c.args.schema.now in
-    let m = type_of c.args.schema.now in
-    let h = c.args.half in
-    let js = c.in-Some.pair.now.items in
-    let j = c.index.result.now in
-    let e = view j in
-    let form = c.in-Some.ensures.found.0 in
-    let two = c.in-Some.ensures.found.1 in
-    let here : j ≡ get_or js h j = grind (arith, common_steps) in
-    let low : h < length js = omega (arith, two, c.requires) in
-    let found : get_item h (items_view js) ≡ Some e = sym (get_item_within js h j low) ∙ ap (λ z. Some (view z)) (sym here) in
-    let long : items_len (items_view js) ≡ 2 = items_len-items_view js ∙ two in
-    half_answer h m x (tree c.in-Ok.value) d (items_view js) e form long found c.in-Ok.ensures
-
 pub read_half-returns-in-Err : goal.read_half-returns-in-Err
-read_half-returns-in-Err t c =
-    let d = view c.args.entry.now in
-    let x = layout_of c.args.schema.now in
-    let m = type_of c.args.schema.now in
-    let h = c.args.half in
-    let js = c.in-Some.pair.now.items in
-    let j = c.index.result.now in
-    let e = view j in
-    let form = c.in-Some.ensures.found.0 in
-    let two = c.in-Some.ensures.found.1 in
-    let here : j ≡ get_or js h j = grind (arith, common_steps) in
-    let low : h < length js = omega (arith, two, c.requires) in
-    let found : get_item h (items_view js) ≡ Some e = sym (get_item_within js h j low) ∙ ap (λ z. Some (view z)) (sym here) in
-    λ names u r. c.within-in-Err.ensures.memory (c.in-Err.ensures names u (half_from h m x u d (items_view js) e form found r))
+read_half-returns-in-Err t c = λ names u r. c.within.ensures.memory (c.in-Err.ensures names u r)
 
 -- ---- tuples
 
@@ -372,37 +301,32 @@ read_tuple-returns-then-is_empty t c =
 
 pub read_tuple-returns-in_default : goal.read_tuple-returns-in_default
 read_tuple-returns-in_default t c =
-    let d = view c.args.json.now in
     let ss = c.args.parts.now.items in
     let size : vec_len c.args.parts.now ≡ length ss = grind (arith, common_steps) in
     let full : length ss ≡ 0 → ⊥ = λ e. true≢false (sym (ap (λ n. n == 0) e) ∙ ap (λ n. n == 0) (sym size) ∙ sym c.is_empty.ensures ∙ c.if-is_empty.false) in
     λ names u r.
-    let k = tuple_form ss u d full r in
+    let k = tuple_form ss u (view c.args.json.now) full r in
     absurd (c.in_default.ensures.none k.items k.form (k.long ∙ sym size ∙ sym c.len.ensures))
 
 pub read_tuple-returns-in_err-values : goal.read_tuple-returns-in_err-values
 read_tuple-returns-in_err-values t c =
-    let d = view c.args.json.now in
     let ss = c.args.parts.now.items in
-    let js = c.in-Some.items.now.items in
     let size : vec_len c.args.parts.now ≡ length ss = grind (arith, common_steps) in
     let full : length ss ≡ 0 → ⊥ = λ e. true≢false (sym (ap (λ n. n == 0) e) ∙ ap (λ n. n == 0) (sym size) ∙ sym c.is_empty.ensures ∙ c.if-is_empty.false) in
-    passed (HaveDistinctNames (layouts_of ss)) tree (IsReading (types.group (types_of ss)) (layouts.tuple (layouts_of ss))) d c.from_residual.result _ c.from_residual.ensures.1 (λ names u r.
-    let k = tuple_form ss u d full r in
-    let same = same_items (items_view js) k.items (sym c.in-Some.ensures.found.0 ∙ k.form) in
+    rw (is_err c.from_residual.result _ c.from_residual.ensures.1) (λ names u r.
+    let k = tuple_form ss u (view c.args.json.now) full r in
+    let same = same_items (items_view c.in-Some.items.now.items) k.items (sym c.in-Some.ensures.found.0 ∙ k.form) in
     c.in_err-values.ensures names k.parts (subst (ArePartsReading (types_of ss) (layouts_of ss) k.parts) same k.read))
 
 pub read_tuple-returns : goal.read_tuple-returns
 read_tuple-returns t c =
-    let d = view c.args.json.now in
     let ss = c.args.parts.now.items in
-    let js = c.in-Some.items.now.items in
     let v = c.in_ok-values.values in
     let ts = trees (map tree v.items) in
     let seen : tree (Group v) ≡ nodes.Group ts = search (rules, the_lemmas) in
     let size : vec_len c.args.parts.now ≡ length ss = grind (arith, common_steps) in
     let full : length ss ≡ 0 → ⊥ = λ e. true≢false (sym (ap (λ n. n == 0) e) ∙ ap (λ n. n == 0) (sym size) ∙ sym c.is_empty.ensures ∙ c.if-is_empty.false) in
-    rw (seen, c.in-Some.ensures.found.0) (tuple_only ss ts (items_view js) full c.in_ok-values.ensures)
+    rw (seen, c.in-Some.ensures.found.0) (tuple_only ss ts (items_view c.in-Some.items.now.items) full c.in_ok-values.ensures)
 
 pub read_parts-loop-i-init : goal.read_parts-loop-i-init
 read_parts-loop-i-init t c = rw c.new-values.ensures.items tt
@@ -410,24 +334,22 @@ read_parts-loop-i-init t c = rw c.new-values.ensures.items tt
 pub read_parts-returns-in_err-value : goal.read_parts-returns-in_err-value
 read_parts-returns-in_err-value t c =
     let ss = c.args.parts.now.items in
-    let xs = c.deref-part-items.result.now in
     let js = c.args.items.now.items in
     let i = c.loop-i.i in
     let s = c.part-item.result in
     let j = c.index.result.now in
     let whole = c.deref-part-items.ensures.value in
-    let inside : i < length xs = omega arith in
+    let inside : i < length c.deref-part-items.result.now = omega arith in
     let low : i < length ss = rw whole at inside in
     let here : s ≡ get_or ss i s = rw whole at c.part-item.is in
     let there : j ≡ get_or js i j = grind (arith, common_steps) in
-    passed (HaveDistinctNames (layouts_of ss)) (λ (v : Vec Value Global). trees (map tree v.items)) (ArePartsReading (types_of ss) (layouts_of ss)) (items_view js) c.from_residual.result _ c.from_residual.ensures.1 (λ names us r.
+    rw (is_err c.from_residual.result _ c.from_residual.ensures.1) (λ names us r.
     let k = part_at ss us js i s j r low here there in
-    c.in_err-value.ensures (distinct_at ss i s names low here) k.0 k.1)
+    c.in_err-value.ensures (distinct_at ss i s low here names) k.0 k.1)
 
 pub read_parts-returns-in_err-push : goal.read_parts-returns-in_err-push
 read_parts-returns-in_err-push t c =
-    let ss = c.args.parts.now.items in
-    passed (HaveDistinctNames (layouts_of ss)) (λ (v : Vec Value Global). trees (map tree v.items)) (ArePartsReading (types_of ss) (layouts_of ss)) (items_view c.args.items.now.items) c.from_residual-in_err-push.result _ c.from_residual-in_err-push.ensures.1 (λ names u r. c.in_err-push.ensures.only_out_of_memory)
+    rw (is_err c.from_residual-in_err-push.result _ c.from_residual-in_err-push.ensures.1) (λ names u r. c.in_err-push.ensures.only_out_of_memory)
 
 pub read_parts-loop-i-preserved : goal.read_parts-loop-i-preserved
 read_parts-loop-i-preserved t c =
@@ -463,10 +385,8 @@ read_struct-returns-then-not-has_members t c =
 
 pub read_struct-returns-in_err-values : goal.read_struct-returns-in_err-values
 read_struct-returns-in_err-values t c =
-    let ns = c.args.fields.now.items in
-    let d = view c.args.json.now in
-    passed (AreNamed (fields_of ns)) tree (IsReading (types.group (types_of (contents ns))) (layouts.structure (fields_of ns))) d c.from_residual.result _ c.from_residual.ensures.1 (λ names u r.
-    let k = struct_form ns u d r in c.in_err-values.ensures names k.0 k.3)
+    rw (is_err c.from_residual.result _ c.from_residual.ensures.1) (λ names u r.
+    let k = struct_form c.args.fields.now.items u (view c.args.json.now) r in c.in_err-values.ensures names k.0 k.3)
 
 pub read_struct-returns : goal.read_struct-returns
 read_struct-returns t c =
@@ -484,20 +404,18 @@ read_fields-loop-field-init t c = rw c.new-values.ensures.items tt
 pub read_fields-returns-in_err-value : goal.read_fields-returns-in_err-value
 read_fields-returns-in_err-value t c =
     let ns = c.args.fields.now.items in
-    let d = view c.args.json.now in
     let i = c.loop-field.field-index in
     let n = c.field-item.result in
     let whole = c.deref-field-items.ensures.value in
     let low : i < length ns = rw whole at c.loop-field-test.true in
     let here : n ≡ get_or ns i n = rw whole at c.field-item.is in
-    passed (AreNamed (fields_of ns)) (λ (v : Vec Value Global). trees (map tree v.items)) (AreFieldsReading (types_of (contents ns)) (fields_of ns)) d c.from_residual.result _ c.from_residual.ensures.1 (λ names us r.
-    let k = field_at ns us d i n r low here in
-    (rw c.deref.ensures at c.in_err-value.ensures) (named_at ns i n names low here) k.0 k.1)
+    rw (is_err c.from_residual.result _ c.from_residual.ensures.1) (λ names us r.
+    let k = field_at ns us (view c.args.json.now) i n r low here in
+    (rw c.deref.ensures at c.in_err-value.ensures) (named_at ns i n low here names).1 k.0 k.1)
 
 pub read_fields-returns-in_err-push : goal.read_fields-returns-in_err-push
 read_fields-returns-in_err-push t c =
-    let ns = c.args.fields.now.items in
-    passed (AreNamed (fields_of ns)) (λ (v : Vec Value Global). trees (map tree v.items)) (AreFieldsReading (types_of (contents ns)) (fields_of ns)) (view c.args.json.now) c.from_residual-in_err-push.result _ c.from_residual-in_err-push.ensures.1 (λ names u r. c.in_err-push.ensures.only_out_of_memory)
+    rw (is_err c.from_residual-in_err-push.result _ c.from_residual-in_err-push.ensures.1) (λ names u r. c.in_err-push.ensures.only_out_of_memory)
 
 pub read_fields-loop-field-preserved : goal.read_fields-loop-field-preserved
 read_fields-loop-field-preserved t c =
@@ -562,10 +480,10 @@ read_variant-returns-in_err-content t c =
     let inside : i < length c.deref.result.now = grind (arith, common_steps) in
     let low : i < length ns = rw c.deref.ensures.value at inside in
     let here : n ≡ get_or ns i n = rw c.deref.ensures.value at c.in-Some.ensures.lookup.1 in
-    passed (HasDistinctNames (layouts.choice (fields_of ns))) tree (IsReading (types.choice (types_of (contents ns))) (layouts.choice (fields_of ns))) d c.from_residual.result _ c.from_residual.ensures.1 (λ names u r.
+    rw (is_err c.from_residual.result _ c.from_residual.ensures.1) (λ names u r.
     let f = variant_form ns u d r in
     let at = one_index ns i u d names.0 c.index_of-index.ensures.found c.index_of-index.ensures.first f in
-    (rw c.deref-2.ensures at c.in_err-content.ensures) (named_at ns i n names.1 low here) f.content (variant_by ns i n u d low here f at))
+    (rw c.deref-2.ensures at c.in_err-content.ensures) (named_at ns i n low here names.1).1 f.content (variant_by ns i n u d low here f at))
 
 pub read_variant-returns-in-Ok-new : goal.read_variant-returns-in-Ok-new
 read_variant-returns-in-Ok-new t c =
