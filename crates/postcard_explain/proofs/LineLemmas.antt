@@ -124,6 +124,7 @@ none_spelled : (t : MessageType) (p : List ℕ) → SpellsEach t 0 p → p ≡ [
 none_spelled t p (NoTrees, are, e) = e
 none_spelled t p (Then x ts, are, s) = absurd (omega (arith, are.0))
 
+-- The one line of several items has the bytes of all of them.
 pub more_bytes : (depth : ℕ) (label : PlainLabel) (t : MessageType) (n : ℕ) (done : List ℕ) (lines : List Line) → SpellsEach t n done
     → IsMore depth label n done lines → bytes_of lines ≡ done
 more_bytes depth label t n done lines s (inl (none, is)) = rw is (sym (none_spelled t done (rw none at s)))

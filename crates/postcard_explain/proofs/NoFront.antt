@@ -25,11 +25,13 @@ cut_both : (p a b q front x y rest : List ℕ) → p ≡ a ++ b → front ≡ x 
 cut_both p a b q front x y rest c d e =
     sym (append_assoc a b q) ∙ ap (λ z. z ++ q) (sym c) ∙ e ∙ ap (λ z. z ++ rest) d ∙ append_assoc x y rest
 
+-- If two joined lists are equal, and so are their first parts, so are their second parts.
 after_same : (a x b y : List ℕ) → a ≡ x → a ++ b ≡ x ++ y → b ≡ y
 after_same a x b y same e = append_cancel_left a b y (e ∙ ap (λ z. z ++ y) (sym same))
 
 -- ---- the next of values in a row
 
+-- If element `i` of a row can't be read, the row can't.
 row_none : (t : MessageType) (i n : ℕ) (ts us : Trees) (p q front rest : List ℕ) → i < n → AreRead i (reads t) ts → SpellsAll ts p → HasNone t q
     → AreRead n (reads t) us → SpellsAll us front → p ++ q ≡ front ++ rest → ⊥
 row_none t i n NoTrees NoTrees p q front rest low a s none b r e = omega (arith, low, a.0, b.0)
@@ -42,6 +44,7 @@ row_none t i n (Then v ts) (Then u us) p q front rest low a (k, l, h, j, c) none
     row_none t (i - 1) (n - 1) ts us l q y rest (omega (arith, low, a.0)) (omega (arith, a.0), a.1.1) j none (omega (arith, b.0), b.1.1) g
     (after_same k x (l ++ q) (y ++ rest) same both)
 
+-- If a part of a tuple or a struct can't be read, the whole can't.
 parts_none : (row : Row) (i : ℕ) (label : PlainLabel) (s : Schema) (p q front rest : List ℕ) → i < length row
     → (label, s) ≡ get_or row i (label, s) → SpellsParts (schemas_of (take i row)) p → HasNoFront s q → SpellsParts (schemas_of row) front
     → p ++ q ≡ front ++ rest → ⊥
@@ -62,6 +65,7 @@ parts_none (o ∷ row) (suc i) label s p q front rest low found (ts, (t, later, 
 
 -- ---- the first node of a value
 
+-- Without a first byte of 0 or 1, there is no option.
 flag_none : (t : MessageType) (bytes front rest : List ℕ) → HasNoFlag bytes → bytes ≡ front ++ rest → FrontSpells (option t) front → ⊥
 flag_none t bytes front rest none cut (tree, inl is, f) =
     let here : front ≡ 0 ∷ [] = rw is at f in
@@ -70,9 +74,11 @@ flag_none t bytes front rest none cut (tree, inr (u, is, r), f) =
     let j : Spells (Present u) front = rw is at f in
     (none (j.1 ++ rest)).1 (cut ∙ ap (λ z. z ++ rest) (j.4 ∙ ap (λ z. z ++ j.1) j.2))
 
+-- Equal lists have equal first elements.
 heads : (a b : ℕ) (p q : List ℕ) → a ∷ p ≡ b ∷ q → a ≡ b
 heads a b p q e = cc
 
+-- If its value can't be read, the option can't.
 present_none : (t : MessageType) (q front rest : List ℕ) → HasNone t q → 1 ∷ q ≡ front ++ rest → FrontSpells (option t) front → ⊥
 present_none t q front rest none cut (tree, inl is, f) =
     let here : front ≡ 0 ∷ [] = rw is at f in
@@ -84,11 +90,13 @@ present_none t q front rest none cut (tree, inr (u, is, r), f) =
     let here : q ≡ j.1 ++ rest = cc in
     none j.1 rest here (u, r, j.3)
 
+-- Without a count, there is no list.
 count_none : (t : MessageType) (bytes front rest : List ℕ) → HasNoCount bytes → bytes ≡ front ++ rest → FrontSpells (seq t) front → ⊥
 count_none t bytes front rest none cut (tree, (ts, is, low, each), f) =
     let j : Spells (Seq ts) front = rw is at f in
     none (count ts) j.0 (j.1 ++ rest) low j.2 (cut ∙ ap (λ z. z ++ rest) j.4 ∙ append_assoc j.0 j.1 rest)
 
+-- If its elements can't be read, the list can't.
 list_none : (t : MessageType) (n : ℕ) (p q front rest : List ℕ) → SpellsNum 64 n p → HasNoRow t n q → p ++ q ≡ front ++ rest → FrontSpells (seq t) front → ⊥
 list_none t n p q front rest num none cut (tree, (ts, is, low, each), f) =
     let j : Spells (Seq ts) front = rw is at f in
@@ -96,6 +104,7 @@ list_none t n p q front rest num none cut (tree, (ts, is, low, each), f) =
     let same = num_front 64 n (count ts) p j.0 q (j.1 ++ rest) num j.2 both in
     none j.1 rest (after_same p j.0 q (j.1 ++ rest) same.0 both) (ts, (sym same.1, each), j.3)
 
+-- The line that opens a value with parts has no bytes.
 opened_bytes : (depth : ℕ) (label : PlainLabel) (inner : ℕ) (head more : List Line) → Opens depth label inner head → bytes_of (head ++ more) ≡ bytes_of more
 opened_bytes depth label inner head more o = bytes_join head more ∙ ap (λ z. z ++ bytes_of more) (opens_nothing depth label inner head o)
 

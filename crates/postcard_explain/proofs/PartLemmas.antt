@@ -15,14 +15,17 @@ use Rattle.postcard_explain.specs.Parts.{PlainLabel, at_field, at_part, Row, num
 
 -- ---- schemas and types
 
+-- The schemas of two rows, joined.
 pub schemas_join : (ps qs : Row) → schemas_of (ps ++ qs) ≡ schemas_of ps ++ schemas_of qs
 schemas_join [] qs = refl
 schemas_join (p ∷ ps) qs = ap (λ ss. p.1 ∷ ss) (schemas_join ps qs)
 
+-- Numbering the parts of a tuple keeps their schemas.
 schemas_numbered : (i : ℕ) (ss : List Schema) → schemas_of (numbered i ss) ≡ ss
 schemas_numbered i [] = refl
 schemas_numbered i (s ∷ ss) = ap (λ xs. s ∷ xs) (schemas_numbered (i + 1) ss)
 
+-- Naming the fields of a struct keeps their schemas.
 schemas_named : (fs : List (Named Schema)) → schemas_of (named fs) ≡ contents fs
 schemas_named [] = refl
 schemas_named (f ∷ fs) = ap (λ xs. f.content ∷ xs) (schemas_named fs)
@@ -56,22 +59,23 @@ part_depth (p ∷ ps) (suc i) label s low e = omega (arith, part_depth ps i labe
 pub parts_depth : (s : Schema) (row : Row) → HasParts s row → row_depth row < depth (type_of s)
 parts_depth s row h = rw (parts_type s row h) (omega arith)
 
+-- The contents of an enum are nested less deeply than the enum.
 pub variants_depth : (s : Schema) (v : Vec (Named Schema) Global) → s ≡ schemas.Enum v → row_depth (named v.items) < depth (type_of s)
 variants_depth s v is = rw (is, type_of_enum v, schemas_named v.items) (omega arith)
 
-pub items_depth : (s : Schema) (item : Item) → HasItems s item → depth (item_type item) < depth (type_of s)
-items_depth s item h = rw (items_type s item h) (omega arith)
-
 -- ---- parts by their index
 
+-- Numbering keeps the number of parts.
 pub length_numbered : (k : ℕ) (ss : List Schema) → length (numbered k ss) ≡ length ss
 length_numbered k [] = refl
 length_numbered k (s ∷ ss) = ap suc (length_numbered (k + 1) ss)
 
+-- Naming keeps the number of fields.
 pub length_named : (fs : List (Named Schema)) → length (named fs) ≡ length fs
 length_named [] = refl
 length_named (f ∷ fs) = ap suc (length_named fs)
 
+-- A part of a tuple stands under its number.
 pub numbered_at : (k : ℕ) (ss : List Schema) (i n : ℕ) (s : Schema) → n ≡ k + i → i < length ss → s ≡ get_or ss i s
     → (at_part n, s) ≡ get_or (numbered k ss) i (at_part n, s)
 numbered_at k [] i n s is low e = absurd (omega (arith, low))
@@ -80,6 +84,7 @@ numbered_at k (x ∷ xs) zero n s is low e =
     rw (same, ← e) refl
 numbered_at k (x ∷ xs) (suc i) n s is low e = numbered_at (k + 1) xs i n s (omega (arith, is)) (omega (arith, low)) e
 
+-- A field of a struct stands under its name.
 pub named_at : (fs : List (Named Schema)) (i : ℕ) (f : Named Schema) (label : PlainLabel) → i < length fs → f ≡ get_or fs i f
     → label ≡ at_field (string_bytes f.name) → (label, f.content) ≡ get_or (named fs) i (label, f.content)
 named_at [] i f label low e called = absurd (omega (arith, low))

@@ -18,10 +18,12 @@ use Rattle.postcard_explain.proofs.PartLemmas.{schemas_join, parts_type, items_t
 
 -- ---- bytes of lines
 
+-- The bytes of lines, and of more lines after them.
 pub bytes_join : (xs ys : List Line) → bytes_of (xs ++ ys) ≡ bytes_of xs ++ bytes_of ys
 bytes_join [] ys = refl
 bytes_join (x ∷ xs) ys = ap (λ p. x.bytes.now ++ p) (bytes_join xs ys) ∙ sym (append_assoc x.bytes.now (bytes_of xs) (bytes_of ys))
 
+-- A line without bytes adds none.
 line_nothing : (line : Line) (lines : List Line) → line.bytes.now ≡ [] → lines ≡ line ∷ [] → bytes_of lines ≡ []
 line_nothing line lines none is = rw (is, none) refl
 
@@ -47,9 +49,11 @@ each_join t n m (Then x xs) p q a b (front, rest, r, others, e) =
 
 -- ---- lines of a value
 
+-- Nothing after a list leaves it equal.
 trail : (p q : List ℕ) → p ≡ q ++ [] → q ≡ p ++ []
 trail p q e = sym (append-nil q) ∙ (sym e ∙ sym (append-nil p))
 
+-- The line of a count and the lines of as many items have the bytes of a list.
 list_spelled : (R : Tree → Type 0) (n : ℕ) (line : Line) (more : List Line) → n < 2 ^ 64 → SpellsNum 64 n line.bytes.now
     → ((ts : Trees) × AreRead n R ts × SpellsAll ts (bytes_of more)) → (t : Tree) × IsSeq R t × Spells t (line.bytes.now ++ bytes_of more)
 list_spelled R n line more low num (ts, (size, each), s) =

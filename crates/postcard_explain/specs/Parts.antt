@@ -76,6 +76,7 @@ abbrev pub item_of : ItemHere → Item
 item_of (items.Value s) = value s.now
 item_of (items.Entry k v) = entry k.now v.now
 
+-- The parts of a row, with their names or numbers.
 abbrev pub parts_of : RowHere → Row
 parts_of (rows.Tuple v) = numbered 0 v.now.items
 parts_of (rows.Struct v) = named v.now.items

@@ -27,12 +27,14 @@ use Rattle.postcard_value_json_read.specs.Reading.{IsFloatJson, bits_near}
 
 -- ---- rounding
 
+-- A smaller power of 2 has a smaller exponent.
 exponent_le : (i j : ℕ) → 2 ^ i ≤ 2 ^ j → i ≤ j
 exponent_le i j h = elim (cases_lt j i) [
   | inl more ↦ absurd (omega (arith, h, pow-lt more))
   | inr less ↦ less
 ]
 
+-- Four conditions that hold together hold each.
 parts : (a b c d : Bool) → T (a && b && c && d) → T a × T b × T c × T d
 parts true true true true h = (h, h, h, h)
 parts a b c d h = absurd h
@@ -44,11 +46,13 @@ record Units (f : Format) (m : ℕ) (e : ℤ) : Type 0 where
   few : m < 2 ^ prec f
   small : m * 2 ^ scale < 2 ^ (low f + suc (emax f))
 
+-- If `x / d` is `m / l` and below `e`, then `m` is below `e * l`.
 cancel : (x l d e m : ℕ) → 0 < l → 0 < d → x * l ≡ m * d → x < e * d → m < e * l
 cancel x l d e m low down same below =
     let more : x * l < e * d * l = mul-lt-mul_of_pos_right below low in
     lt_of_mul-lt-mul_right d (subst (λ n. n < e * l * d) same (subst (λ n. x * l < n) (mul_right_comm e d l) more))
 
+-- A finite float of a format is a count of its least units.
 units_of : (f : Format) (s : Bool) (m : ℕ) (e : ℤ) → T (fits f (fin s m e)) → Units f m e
 unfolding fits
 units_of f s zero e h = record { scale = 0; whole = omega arith; few = pow_pos (prec f); small = omega (arith, pow_pos (low f + suc (emax f))) }
@@ -98,6 +102,7 @@ rounds_to_itself f (fin s m e) h =
 
 -- ---- numbers
 
+-- A finite float is no NaN.
 finite_no_nan : (x : Float) → float_is_finite x ≡ true → T (not (is_nan x))
 unfolding float_is_finite is_nan
 finite_no_nan nan e = absurd (cc e)
@@ -132,6 +137,7 @@ other_nan f bits low other plus minus = by (of_bits f bits) refl
     by (inf true) e = absurd (minus (bits_of true e))
     by (fin s m k) e = absurd (cc (sym (ap float_is_finite e) ∙ other))
 
+-- What holds of both branches holds of the choice.
 choose : (P : List ℕ → Type 0) (b : Bool) (u v : List ℕ) → (b ≡ true → P u) → (b ≡ false → P v) → P (if b then u else v)
 choose P true u v f g = f refl
 choose P false u v f g = g refl
@@ -143,6 +149,7 @@ unfolding to_bits
 word_bits F32 = (refl, refl, refl)
 word_bits F64 = (refl, refl, refl)
 
+-- The word of bits that are not finite is read as these bits.
 special_spells : (t : FloatType) (bits : ℕ) → bits < 2 * top (format_of t) → bits < 16 ^ 64 → float_is_finite (of_bits (format_of t) bits) ≡ false
     → SpellsFloat (format_of t) bits (special_text t bits)
 special_spells t bits low few other =
@@ -159,6 +166,7 @@ special_spells t bits low few other =
     ) in
     subst (SpellsFloat f bits) (sym (append_assoc (codes "nan(0x") (digits 16 false bits) (41 ∷ []))) (nan_spells f bits are few))))
 
+-- Bits of as many bytes as a float has are within its format, and have at most 64 hexadecimal digits.
 float_limits : (f : FloatType) (bits : ℕ) → bits < 256 ^ float_size f → (bits < 2 * top (format_of f)) × (bits < 16 ^ 64)
 float_limits F32 bits low = (omega (arith, low), omega (arith, low))
 float_limits F64 bits low = (omega (arith, low), omega (arith, low))

@@ -63,6 +63,7 @@ unsigned_back n low = by (nat_lt n 9007199254740992)
     by true = refl
     by false = plain_digits n low
 
+-- The digits of a signed number denote it.
 signed_digits : (z : ℤ) → FitsSigned w128 z → IsSigned z (signed_decimal z)
 signed_digits (pos n) fits =
     let low : n < 10 ^ 64 = omega (arith, ints, fits.sfits) in
@@ -77,6 +78,7 @@ signed_digits (negsuc n) fits =
     let h = decimal_is_IsNumeral_wide (suc n) low in
     (h.0, ap (λ m. neg_ℤ (pos m)) (sym h.1))
 
+-- The JSON of a signed number is read back.
 signed_back : (z : ℤ) → FitsSigned w128 z → IsSignedJson z (signed_json z)
 signed_back z fits = by z (is_small z) fits
   where
@@ -90,6 +92,7 @@ signed_back z fits = by z (is_small z) fits
 same_byte : (a b : ℕ) → Byte a ≡ Byte b → a ≡ b
 same_byte a b e = cc e
 
+-- A list of byte trees is that of its bytes.
 bytes_whole : (ts : Trees) → Each IsByte ts → ts ≡ trees (map Byte (bytes_of ts))
 bytes_whole NoTrees each = refl
 bytes_whole (Then (Byte b) ts) each = ap (λ us. Then (Byte b) us) (bytes_whole ts each.1)
@@ -100,6 +103,7 @@ bytes_are NoTrees each = tt
 bytes_are (Then (Byte b) ts) ((c, is, low), each) = (subst (λ n. n < 256) (sym (same_byte b c is)) low, bytes_are ts each)
 bytes_are (Then t ts) ((b, is, low), each) = absurd (cc is)
 
+-- A list of byte trees has as many bytes as trees.
 bytes_count : (ts : Trees) → Each IsByte ts → length (bytes_of ts) ≡ count ts
 bytes_count NoTrees each = refl
 bytes_count (Then (Byte b) ts) each = ap suc (bytes_count ts each.1)

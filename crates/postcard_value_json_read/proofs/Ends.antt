@@ -9,9 +9,11 @@ use Rattle.postcard_schema_text.specs.Text.{unblank, TakesPhrase, IsSign}
 use Rattle.postcard_schema_text.specs.FrontLemmas.{trim_is}
 use Rattle.postcard_value_json_read.specs.Values.{IsEndOf}
 
+-- A text is an end of itself.
 pub whole_end : (a b : List ℕ) → b ≡ a → IsEndOf a b
 whole_end a b same = ([], sym same)
 
+-- An end of an end is an end.
 pub end_of_end : (a b c : List ℕ) → IsEndOf a b → IsEndOf b c → IsEndOf a c
 end_of_end a b c (x, e) (y, f) = (x ++ y, e ∙ ap (λ z. x ++ z) f ∙ sym (append_assoc x y c))
 
@@ -19,6 +21,7 @@ end_of_end a b c (x, e) (y, f) = (x ++ y, e ∙ ap (λ z. x ++ z) f ∙ sym (app
 pub byte_off : (text left rest : List ℕ) (b : ℕ) → IsEndOf text left → left ≡ b ∷ rest → IsEndOf text rest
 byte_off text left rest b h e = end_of_end text left rest h (b ∷ [], e)
 
+-- A text without its leading blanks is an end of it.
 unblank_end : (s : List ℕ) → IsEndOf s (unblank s)
 unblank_end [] = ([], refl)
 unblank_end (b ∷ s) = by (is_ascii_whitespace b) (unblank_end s)

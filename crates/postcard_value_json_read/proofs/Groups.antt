@@ -40,11 +40,13 @@ parts_more [] [] [] s v j h one = (one, tt)
 parts_more (r ∷ ss) (u ∷ us) (k ∷ js) s v j h one = (h.0, parts_more ss us js s v j h.1 one)
 parts_more ss vs js s v j h one = absurd h
 
+-- The parts that were read are those of the JSON.
 parts_read : (ss : List Schema) (vs : List Value) (js : List json.Value) → ArePartsOnly ss vs js → ArePartsReading (types_of ss) (layouts_of ss) (trees (map tree vs)) (items_view js)
 parts_read [] [] [] h = (refl, tt)
 parts_read (s ∷ ss) (v ∷ vs) (j ∷ js) h = let k = parts_read ss vs js h.1 in ((tree v, trees (map tree vs), refl, h.0.0.0, k.0), (h.0.0.1, k.1))
 parts_read ss vs js h = absurd h
 
+-- The JSON has no other parts than those that were read.
 parts_one : (ss : List Schema) (vs : List Value) (js : List json.Value) (us : Trees) → ArePartsOnly ss vs js → HaveDistinctNames (layouts_of ss)
     → reads_all (types_of ss) us → AreParts (layouts_of ss) us (items_view js) → us ≡ trees (map tree vs)
 parts_one [] [] js us h names r spelled = r
@@ -113,6 +115,7 @@ pub two_items : (js : List json.Value) (j k : json.Value) → length js ≡ 2 �
 two_items (a ∷ b ∷ []) j k long first second = ap₂ (λ x y. pair (view x) (view y)) (sym first) (sym second)
 two_items js j k long first second = absurd (omega (arith, long))
 
+-- Equal pairs have equal halves.
 same_pair : (a b e f : Data) → pair a b ≡ pair e f → (a ≡ e) × (b ≡ f)
 same_pair a b e f is = (cc is, cc is)
 
@@ -154,11 +157,13 @@ fields_more [] [] n v d h one = (one, tt)
 fields_more (m ∷ ns) (u ∷ us) n v d h one = (h.0, fields_more ns us n v d h.1 one)
 fields_more ns vs n v d h one = absurd h
 
+-- The fields that were read are those of the JSON.
 fields_read : (ns : List (Named Schema)) (vs : List Value) (d : Data) → AreFieldsOnly ns vs d → AreFieldsReading (types_of (contents ns)) (fields_of ns) (trees (map tree vs)) d
 fields_read [] [] d h = (refl, tt)
 fields_read (n ∷ ns) (v ∷ vs) d h = let k = fields_read ns vs d h.1 in ((tree v, trees (map tree vs), refl, h.0.0.2.0, k.0), ((h.0.0.0, h.0.0.1, h.0.0.2.1), k.1))
 fields_read ns vs d h = absurd h
 
+-- The JSON has no other fields than those that were read.
 fields_one : (ns : List (Named Schema)) (vs : List Value) (us : Trees) (d : Data) → AreFieldsOnly ns vs d → AreNamed (fields_of ns)
     → reads_all (types_of (contents ns)) us → AreFields (fields_of ns) us d → us ≡ trees (map tree vs)
 fields_one [] [] us d h names r spelled = r

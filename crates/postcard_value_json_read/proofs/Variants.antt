@@ -26,6 +26,7 @@ use Rattle.postcard_value_json_read.proofs.Groups.{some_is}
 
 -- ---- names
 
+-- JSON has the name of one variant at most.
 one_name : (n p : List ℕ) (d : Data) → IsNameIn n d → IsNameIn p d → n ≡ p
 one_name n p d (inl a) (inl b) = cc (sym a ∙ b)
 one_name n p d (inl a) (inr (f, b)) = cc (sym a ∙ b)
@@ -54,6 +55,7 @@ only (e ∷ []) name d one found = by (bytes_eq name (string_bytes e.0)) refl
         cc none
 only es name d one found = absurd (omega (arith, one))
 
+-- An object of one member has that member.
 get_alone : (name : List ℕ) (e : Data) → get name (alone name e) ≡ Some e
 get_alone name e = get_member-put name e no_members
 
@@ -87,6 +89,7 @@ pub unit_content : (n : List ℕ) (x : Layout) (R : Reading) (t : Tree) (d : Dat
 unit_content n (tuple no_layouts) R t d unit h = h
 unit_content n x R t d unit h = cc unit
 
+-- The JSON of a unit variant is its name.
 content_unit : (n : List ℕ) (x : Layout) (R : Reading) (d : Data) → is_unit x ≡ true → d ≡ string n → IsVariantJson n x R (nodes.Group NoTrees) d
 content_unit n (tuple no_layouts) R d unit is = (refl, is)
 content_unit n x R d unit is = cc unit
@@ -96,6 +99,7 @@ pub other_content : (n : List ℕ) (x : Layout) (R : Reading) (t : Tree) (d : Da
 other_content n (tuple no_layouts) R t d full h = cc full
 other_content n x R t d full h = h
 
+-- The JSON of another variant is an object of its name and its content.
 content_other : (n : List ℕ) (x : Layout) (R : Reading) (t : Tree) (d e : Data) → is_unit x ≡ false → d ≡ alone n e → R t e → IsVariantJson n x R t d
 content_other n (tuple no_layouts) R t d e full is h = cc full
 content_other n x R t d e full is h = (e, is, h)
@@ -108,6 +112,7 @@ unit_only n m x d unit is h = (
   λ names u r. (unit_content n x (IsJsonOf x) u d unit r.1).0,
 )
 
+-- Equal objects of one member have equal members.
 pub same_content : (n : List ℕ) (d e : Data) → alone n d ≡ alone n e → d ≡ e
 same_content n d e is = cc is
 
@@ -155,6 +160,7 @@ variant_form ns u d ((i, t, is, small, r), h) =
     let k = at_form ns i t d r (subst (λ z. IsChoiceJson (IsJsonAt (fields_of ns)) z d) is h) in
     record { index = i; content = t; variant = k.0; is = is; small = small; low = k.1; here = k.2; read = k.3 }
 
+-- A name that no variant has isn't that of the variant at an index.
 not_called_at : (name : List ℕ) (ns : List (Named Schema)) (i : ℕ) (n : Named Schema) → AreNotCalled name (fields_of ns) → i < length ns → n ≡ get_or ns i n → string_bytes n.name ≡ name → ⊥
 not_called_at name [] i n none low here same = absurd (omega (arith, low))
 not_called_at name (m ∷ ns) zero n none low here same = none.0 (subst (λ z. string_bytes z.name ≡ name) here same)
@@ -212,6 +218,7 @@ variant_only ns k n t d small low here found first (h, one) = (
       f.is ∙ ap₂ nodes.Variant (sym at) content,
 )
 
+-- An index below `i + 1` is below `i`, or is `i`.
 below_or_at : (k i : ℕ) → k < i + 1 → (k < i) ⊎ (k ≡ i)
 below_or_at k i low = grind (arith, low)
 
