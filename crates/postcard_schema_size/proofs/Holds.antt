@@ -40,7 +40,7 @@ holding : {X V : Type 0} {measure : X → ℕ} {l : SizeLimit} {has : X → Type
     → IsLimitOf measure l has (λ (v : Unit {0}). never)
 holding h = record { bounded = h.bounded; is_reached = h.is_reached; never_refuses = λ may. never_any }
 
--- The limit of an array holds if that of its elements does. An empty array has no bytes.
+-- An empty row of trees has no bytes.
 no_bytes : (ts : Trees) → count ts ≡ 0 → trees_len ts ≤ 0
 no_bytes NoTrees e = omega arith
 no_bytes (Then t ts) e = absurd (omega (arith, e))
@@ -53,7 +53,7 @@ array_holds zero l has h = record {
 }
 array_holds (suc n) l has h = holding (array_lawful (suc n) h)
 
--- A float and a number of a fixed width are arrays of bytes.
+-- The limit of n bytes is n. A float and a number of a fixed width are such arrays of bytes.
 bytes_hold : (n : ℕ) → n < 2 ^ 64 → Holds (exactly n) (IsArray n IsByte)
 bytes_hold n few =
     let is : limited (n * 1) ≡ Some n = ap limited (omega arith) ∙ small n few in
