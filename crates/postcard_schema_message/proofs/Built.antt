@@ -83,7 +83,7 @@ pub cannot_take : (problem : Problem) (n : NodeView) (vs : List View) (count : �
 cannot_take problem n vs count is (inl memory) = subst (λ p. CannotBuild p n vs) (sym memory) tt
 cannot_take problem n vs count is (inr (malformed, few)) = subst (λ p. CannotBuild p n vs) (sym malformed) (subst (λ m. length vs < m) is few)
 
--- If the parts are as deep as `d`, and `d` and the node's own levels are more than 384, the views begin with one that is too deep.
+-- If the greatest depth of the parts and the node's own levels are more than 384, the nodes begin with a type that is too deep.
 pub too_deep : (n : NodeView) (vs us ws : List View) (d : ℕ) → length vs ≡ arity n → ws ≡ vs ++ us → d ≡ greatest vs → 384 < d + levels n → BeginsWith IsDeep n ws
 too_deep n vs us ws d long e deep high =
     let depth = made_depth n vs long in
