@@ -17,7 +17,7 @@ use Rattle.postcard_schema_size.specs.declared.sizes.Sizes.{Sizes}
 use Rattle.postcard_schema_size.proofs.Sums.{IsSmall, sum_small, small, sums, greaters, zero_first, zero_last}
 use Rattle.postcard_schema_size.proofs.LeastLemmas.{end_least, then_least, group_least, same_least, lesser_least}
 
--- A function of a list from index k on is that of the element at k and the list from k + 1 on, or past the end that of the empty list.
+-- The list from index k on, under f: within the list it is the element at k and the list from k + 1 on. Past its end it is empty.
 module _ {X Y : Type 0} (f : List X → Y) (xs : List X) (k : ℕ) where
   pub cut : (x : X) → k < length xs → x ≡ get_or xs k x → f (drop k xs) ≡ f (x ∷ drop (k + 1) xs)
   cut x low is = at_drop_more f xs k x low ∙ ap (λ y. f (y ∷ drop (k + 1) xs)) (sym is)
