@@ -45,6 +45,7 @@ no_bytes : (ts : Trees) → count ts ≡ 0 → trees_len ts ≤ 0
 no_bytes NoTrees e = omega arith
 no_bytes (Then t ts) e = absurd (omega (arith, e))
 
+-- If the limit of the elements holds, n times their greatest size holds as the limit of an array of n elements.
 array_holds : (n : ℕ) (l : SizeLimit) (has : Tree → Type 0) → Holds l has → Holds (record l { greatest = repeated n l.greatest }) (IsArray n has)
 array_holds zero l has h = record {
   bounded = λ t f. rw f.1 (no_bytes f.0 f.2);
