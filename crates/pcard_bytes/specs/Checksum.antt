@@ -39,7 +39,7 @@ algorithm width poly init reflected xorout = record {
   xorout = xorout;
 }
 
--- The parameters of the algorithm of this name in that catalogue.
+-- The parameters of the algorithm of this name in Greg Cook's catalogue.
 abbrev pub parameters_of : Checksum → Parameters
 parameters_of Crc8Smbus = algorithm 8 0x07 0 false 0
 parameters_of Crc8MaximDow = algorithm 8 0x31 0 true 0
@@ -72,16 +72,16 @@ IsChecksum c bytes crc = IsCrc (parameters_of c) bytes crc
 abbrev pub trailer_of : Checksum → ℕ → List ℕ
 trailer_of c crc = take (bytes_for (parameters_of c).width) (to_le_bytes w128 crc)
 
--- A checksum as the catalogue writes it: a hexadecimal digit for each four bits of the width, or less
--- than four left, the highest first.
+-- A checksum as the catalogue writes it: one hexadecimal digit for each four bits of the width, rounded up, the highest first.
+-- The number has 128 bits, so 32 digits, of which the last ones are taken.
 abbrev pub checksum_text : Checksum → ℕ → List ℕ
 checksum_text c crc = drop (32 - div_ceil (parameters_of c).width 4) (encode_lower (to_be_bytes w128 crc))
 
--- The bytes `behind` are those of the checksum of the bytes `front`, and then `rest`.
+-- The bytes `behind` are the trailer of the checksum of `front`, and then `rest`.
 abbrev pub IsTrailer : Checksum → List ℕ → List ℕ → List ℕ → Type 0
 IsTrailer c front behind rest = (crc : ℕ) × IsChecksum c front crc × (behind ≡ trailer_of c crc ++ rest)
 
--- The bytes `behind` don't begin with those of the checksum of the bytes `front`: they are too few, or others.
+-- The error says why `behind` doesn't begin with the trailer of the checksum of `front`: it is too short, or has other bytes.
 abbrev pub HasNoTrailer : Checksum → List ℕ → List ℕ → Error → Type 0
 HasNoTrailer c front behind e =
     ((e ≡ DeserializeUnexpectedEnd) × (length behind < bytes_for (parameters_of c).width))

@@ -1,4 +1,4 @@
--- The bytes of a pasted text of hexadecimal digits.
+-- The bytes of a pasted text of hexadecimal digits, as `xxd` and `hexdump -C` print them too. A text is lines, and a line is words.
 use Rattle.std.specs.Prelude.{◌≡◌, ◌==◌, ◌⊎◌, ℕ, ◌+◌, ◌-◌, min, nat_eq, nat_le, Bool, true, not, ◌&&◌, ◌||◌, if◌then◌else◌, List, [], ◌∷◌, ◌++◌, length, take, drop, codes, Ok, IsErr}
 use Rattle.std.specs.List.{starts_with, slice_split, list_all, list_any, position_or_len}
 use Rattle.std.specs.Char.{is_ascii_hexdigit, is_ascii_whitespace}
@@ -7,7 +7,7 @@ use Rattle.postcard_schema_text.specs.Text.{characters, unblank}
 
 -- ---- parts in a row
 
--- Parts denote these bytes, one part after another, if `Is` says which bytes a part denotes.
+-- The parts denote these bytes, one part after another. `Is` says which bytes a part denotes.
 abbrev pub AreBytesOf : (List ℕ → List ℕ → Type 0) → List (List ℕ) → List ℕ → Type 0
 AreBytesOf Is [] bytes = bytes ≡ []
 AreBytesOf Is (part ∷ parts) bytes =
@@ -23,7 +23,7 @@ IsWrongAt Is IsWrong (part ∷ parts) n =
 
 -- ---- words
 
--- Whether a byte stands between words: white space of ASCII, a colon, a comma or a hyphen.
+-- Whether a byte stands between words: white space of ASCII, a colon (58), a comma (44) or a hyphen (45).
 abbrev pub is_separator : ℕ → Bool
 is_separator b = is_ascii_whitespace b || (b == 58 || (b == 44 || b == 45))
 
@@ -31,7 +31,7 @@ is_separator b = is_ascii_whitespace b || (b == 58 || (b == 44 || b == 45))
 abbrev pub words_of : List ℕ → List (List ℕ)
 words_of text = slice_split is_separator text
 
--- The digits of a word: what follows the `0x` with which it begins, or else the whole word.
+-- The digits of a word: if it begins with `0x`, what follows these 2 bytes, and else the whole word.
 abbrev pub digits_of : List ℕ → List ℕ
 digits_of word = if starts_with nat_eq word (codes "0x") then drop 2 word else word
 
@@ -39,7 +39,7 @@ digits_of word = if starts_with nat_eq word (codes "0x") then drop 2 word else w
 abbrev pub IsWord : List ℕ → List ℕ → Type 0
 IsWord word bytes = decode_of (digits_of word) ≡ Ok bytes
 
--- The index of the first byte that is no digit, or else of the last.
+-- The index of the first byte that is no hexadecimal digit, or if all are digits, of the last one.
 unfoldable pub wrong_digit : List ℕ → ℕ
 wrong_digit digits = min (position_or_len (λ b. not (is_ascii_hexdigit b)) digits) (length digits - 1)
 
@@ -80,15 +80,16 @@ is_of_hexdump line = begins_with_digits 8 line && (starts_with nat_eq (drop 8 li
 unfoldable pub is_lone_offset : List ℕ → Bool
 is_lone_offset line = begins_with_digits 8 line && list_all is_ascii_whitespace (drop 8 line)
 
--- The index in a line at which its bytes begin, after its offset.
+-- The index in a line at which its bytes begin: after the 9 bytes of an offset with a colon and the blanks in a line of `xxd`, after
+-- the 8 digits in one of `hexdump -C`, and else 0.
 unfoldable pub start_of : List ℕ → ℕ
 start_of line =
     if is_of_xxd line then length line - length (unblank (drop 9 line))
     else if is_of_hexdump line then 8
     else 0
 
--- The bytes of a line without its offset and the text after them. In a `dump`, a text with a line of `hexdump -C`, eight digits alone are
--- an offset.
+-- The part of a line that has its bytes: without the offset before it, and the characters after it. In a `dump`, which is a text with
+-- a line of `hexdump -C`, a line of eight digits alone is an offset, and has no bytes.
 unfoldable pub column_of : Bool → List ℕ → List ℕ
 column_of dump line =
     if is_of_xxd line then up_to (codes "  ") (unblank (drop 9 line))
@@ -100,14 +101,14 @@ column_of dump line =
 abbrev pub IsLine : Bool → List ℕ → List ℕ → Type 0
 IsLine dump line bytes = AreBytesOf IsWord (words_of (column_of dump line)) bytes
 
--- A line is wrong where the first of its words is that denotes no bytes.
+-- A line is wrong at index n, where the first of its words is wrong that denotes no bytes.
 abbrev pub IsWrongLine : Bool → List ℕ → ℕ → Type 0
 IsWrongLine dump line n =
     (m : ℕ) × (n ≡ start_of line + m) × IsWrongAt IsWord IsWrongWord (words_of (column_of dump line)) m
 
 -- ---- texts
 
--- The lines of a text.
+-- The lines of a text: the parts between its new lines, the bytes 10.
 abbrev pub lines_of : List ℕ → List (List ℕ)
 lines_of text = slice_split (λ b. b == 10) text
 

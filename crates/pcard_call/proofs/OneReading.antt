@@ -1,4 +1,5 @@
--- Words are read in one way only.
+-- Words are one call only, and no call is misused. Two readings of the same words take the same step at each word, since a word names
+-- one verb or one option, and an option's word begins with `--`.
 use Rattle.std.proofs.Common.{◌≡◌, ℕ, Bool, true, false, Option, Some, List, [], ◌∷◌, refl, sym, ap, subst, ◌∙◌, true≢false, inl, inr}
 use Rattle.std.proofs.lemmas.Option.{same_Some}
 use Rattle.std.specs.Prelude.{codes, nat_eq, if◌then◌else◌}
@@ -26,7 +27,7 @@ verb_of word =
     if is word (codes "explain") then Some verbs.Explain else if is word (codes "size") then Some verbs.Size else
     if is word (codes "key") then Some verbs.Key else if is word (codes "crc") then Some verbs.Checksum else Some verbs.Types
 
--- The name of a verb names it.
+-- The verb that the name of v names is v.
 verb_is : (v : Verb) → verb_of (verb_name v) ≡ Some v
 verb_is verbs.Encode = refl
 verb_is verbs.Decode = refl
@@ -49,7 +50,7 @@ option_from word =
     if is word (codes "--json") then Some Json else if is word (codes "--frame") then Some Frame else
     if is word (codes "--all") then Some All else if is word (codes "--hex") then Some Hex else if is word (codes "--raw") then Some Raw else Some Names
 
--- The name of an option names it.
+-- The option that the name of o names is o.
 option_is : (o : OptionName) → option_from (option_name o) ≡ Some o
 option_is Checksum = refl
 option_is Longest = refl
@@ -75,7 +76,7 @@ begins Hex = refl
 begins Raw = refl
 begins Names = refl
 
--- A value is added in one way.
+-- Adding an option with one value to the same options gives the same options.
 pub same_value : (o : OptionName) (value : List ℕ) (g h k : Given) → WithValue o value g h → WithValue o value g k → h ≡ k
 same_value Checksum value g h k a b = a ∙ sym b
 same_value Longest value g h k (n, says, a) (m, other, b) = a ∙ ap (λ z. record g { longest = Some z }) (says.1 ∙ sym other.1) ∙ sym b
@@ -94,17 +95,17 @@ same_first e = cc
 same_rest : {x y : List ℕ} {xs ys : Words} → x ∷ xs ≡ y ∷ ys → xs ≡ ys
 same_rest e = cc
 
--- The word of a new option is no operand.
+-- The word of a new option begins with `--`, so it is no operand.
 not_operand : (v : Verb) (g : Given) (w : List ℕ) (o : OptionName) → IsNewOption v g w o → begins_option w ≡ false → ⊥
 not_operand v g w o new plain = true≢false (sym (begins o) ∙ ap begins_option (sym new.0) ∙ plain)
 
--- An option with a value is none without.
+-- One word isn't both a new option that has a value and a new option that has none.
 not_both : (v : Verb) (g : Given) (w : List ℕ) (o p : OptionName) → IsNewOption v g w o → IsNewOption v g w p → has_value o ≡ false → has_value p ≡ true → ⊥
 not_both v g w o p new other plain dashed =
     let same = same_option o p (sym new.0 ∙ other.0) in
     true≢false (sym dashed ∙ ap has_value (sym same) ∙ plain)
 
--- The options of words, and the words after them, are read in one way.
+-- Two readings of the same words give the same options and the same words after them.
 pub one_reading : (v : Verb) (g h k : Given) (ws r s : Words) → OptionsThen v g ws h r → OptionsThen v g ws k s → (h ≡ k) × (r ≡ s)
 one_reading v g h k [] r s (at_end _) (at_end _) = (refl, refl)
 one_reading v g h k (w ∷ ws) r s (at_operand _ _ _ plain) (at_operand _ _ _ also) = (refl, refl)
@@ -122,7 +123,7 @@ one_reading v g h k (w ∷ value ∷ ws) r s (valued _ a _ o _ _ _ _ new some wi
     let one = same_value o value g b a (subst (λ x. WithValue x value g b) same more_with) with in
     one_reading v a h k ws r s rest (subst (λ x. OptionsThen v x ws k s) one more)
 
--- The word of a new option is no bad one.
+-- The word of a new option is no bad option.
 not_bad : (v : Verb) (g : Given) (w : List ℕ) (o : OptionName) (m : Misuse) → IsNewOption v g w o → IsBadOption v g w m → ⊥
 not_bad v g w o NoVerb new bad = bad
 not_bad v g w o (UnknownVerb x) new bad = bad
@@ -137,7 +138,7 @@ not_bad v g w o (NoValue p) new bad = bad
 not_bad v g w o (BadValue p x) new bad = bad
 not_bad v g w o (Operands u) new bad = bad
 
--- A value that was added is no bad one.
+-- A value with which an option was added is no bad value of the option.
 added_bad : (o : OptionName) (value : List ℕ) (g h : Given) (m : Misuse) → WithValue o value g h → IsBadValue o value m → ⊥
 added_bad o value g h NoVerb added bad = bad
 added_bad o value g h (UnknownVerb x) added bad = bad
@@ -148,7 +149,7 @@ added_bad o value g h (NoValue p) added bad = bad
 added_bad o value g h (BadValue p x) added (is, same, none) = none g h added
 added_bad o value g h (Operands u) added bad = bad
 
--- Options that are read are not misused.
+-- Words that can be read as options and the words after them are not misused.
 pub reading_or_misuse : (v : Verb) (g h : Given) (ws r : Words) (m : Misuse) → OptionsThen v g ws h r → IsMisused v g ws m → ⊥
 reading_or_misuse v g h [] r m _ misused = elim misused [ ]
 reading_or_misuse v g h (w ∷ ws) r m (at_operand _ _ _ plain) (bad_option _ _ _ _ dashed bad) = true≢false (sym dashed ∙ plain)
@@ -173,7 +174,7 @@ reading_or_misuse v g h (w ∷ value ∷ ws) r m (valued _ a _ o _ _ _ _ new som
     let one = same_value o value g b a (subst (λ x. WithValue x value g b) same more_with) with in
     reading_or_misuse v a h ws r m rest (subst (λ x. IsMisused v x ws m) one more)
 
--- Words are one call.
+-- If words are two calls, these have the same verb, the same options and the same operands.
 pub same_call : (words operands others : Words) (verb other : Verb) (given more : Given) → IsCall words verb given operands → IsCall words other more others
     → (verb ≡ other) × (given ≡ more) × (operands ≡ others)
 same_call words operands others verb other given more a b =
@@ -184,7 +185,7 @@ same_call words operands others verb other given more a b =
     let one = one_reading verb nothing_given given more a.rest operands others a.options here in
     (verbs, one.0, one.1)
 
--- A call isn't misused.
+-- Words that are a call are no misuse.
 pub not_misused : (words operands : Words) (verb : Verb) (given : Given) (misuse : Misuse) → IsCall words verb given operands → IsMisuse words misuse → ⊥
 not_misused words operands verb given NoVerb a (inl none) = let e = sym none ∙ a.begins in cc
 not_misused words operands verb given (UnknownVerb w) a (inl (rest, is, none)) = none verb (same_first (sym is ∙ a.begins))

@@ -22,8 +22,8 @@ begins_option word = starts_with nat_eq word (codes "--")
 abbrev pub IsNewOption : Verb → Given → List ℕ → OptionName → Type 0
 IsNewOption verb g word option = (word ≡ option_name option) × (takes verb option ≡ true) × (is_given option g ≡ false)
 
--- The words are options of the verb, each new, and then words of which the first is no option. The first options are those that are
--- given before, the second ones those that are given then.
+-- The words are options of the verb, none given twice, and then other words, the first of which is no option. The first `Given` has the
+-- options before these words, and the second those after them.
 pub data OptionsThen (verb : Verb) : Given → Words → Given → Words → Type 0 where
   at_end : (g : Given) → OptionsThen verb g [] g []
   at_operand : (g : Given) (word : List ℕ) (words : Words) → begins_option word ≡ false → OptionsThen verb g (word ∷ words) g (word ∷ words)
@@ -32,11 +32,11 @@ pub data OptionsThen (verb : Verb) : Given → Words → Given → Words → Typ
   valued : (g h k : Given) (option : OptionName) (word value : List ℕ) (words rest : Words) → IsNewOption verb g word option → has_value option ≡ true
       → WithValue option value g h → OptionsThen verb h words k rest → OptionsThen verb g (word ∷ value ∷ words) k rest
 
--- Where the bytes of a message are: standard input, or a file.
+-- Whether the word says where the bytes of a message are: `-` for standard input, or `@` and the name of a file.
 abbrev pub is_input : List ℕ → Bool
 is_input word = if pointwise nat_eq word (codes "-") then true else starts_with nat_eq word (codes "@")
 
--- The words are a type, and perhaps where its bytes are.
+-- Whether the words are a type, or a type and where its bytes are.
 abbrev pub names_input : Words → Bool
 names_input (kind ∷ []) = true
 names_input (kind ∷ input ∷ []) = is_input input
@@ -63,7 +63,7 @@ pub record IsCall (words : Words) (verb : Verb) (given : Given) (operands : Word
   pub options : OptionsThen verb nothing_given rest given operands
   pub fit : fits verb given operands ≡ true
 
--- The word begins with `--`, and is no new option of the verb, for this reason.
+-- The reason why the word is no new option of the verb: it names none, or one that the verb doesn't take, or one that is given.
 abbrev pub IsBadOption : Verb → Given → List ℕ → Misuse → Type 0
 IsBadOption verb g word (UnknownOption v w) = (v ≡ verb) × (w.now ≡ word) × ((option : OptionName) → word ≢ option_name option)
 IsBadOption verb g word (Untaken v option) = (v ≡ verb) × (word ≡ option_name option) × (takes verb option ≡ false)
@@ -96,7 +96,7 @@ pub record HasOtherOperands (words : Words) (verb : Verb) : Type 0 where
   pub options : OptionsThen verb nothing_given rest given operands
   pub unfit : fits verb given operands ≡ false
 
--- What is wrong after the verb is this.
+-- The words begin with a verb, and this is wrong with the words after it.
 abbrev pub IsWrongAfter : Words → Misuse → Type 0
 IsWrongAfter words m = (verb : Verb) × (rest : Words) × (words ≡ verb_name verb ∷ rest) × IsMisused verb nothing_given rest m
 

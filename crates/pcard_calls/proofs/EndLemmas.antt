@@ -1,4 +1,4 @@
--- Lemmas on how a call ends.
+-- How a call ends follows from how its part ends: a call with TYPE from what is done in its format, and any call from one of two kinds.
 use Rattle.std.proofs.Common.{◌≡◌, inr, ℕ, true, false, List, Option, Result, Ok, Err, OnOk}
 use Rattle.std.specs.Prelude.{IfErr}
 use Rattle.pcard_call.specs.Options.{Given}
@@ -10,7 +10,7 @@ use Rattle.pcard_calls.specs.Calls.{EndsOther, EndsPlain, EndsTyped, FailsWith, 
 use Rattle.pcard_calls.specs.Ends.{IsReported}
 use Rattle.pcard_calls.specs.Requests.{first_word, second_word}
 
--- A call with TYPE ends so where it is done in its format.
+-- If the options and TYPE name a format, and what is done in it prints or fails as it may, so does the call with TYPE.
 pub typed_ends : (reads : ℕ) (steady : Type 0) (verb : Verb) (given : Given) (operands : List (List ℕ)) (known left old mid : Option (List ℕ)) (r : Result (Unit {0}) Failure)
     (format : Format) → IsFormat given (first_word operands) format → OnOk r (PrintsWith format verb given (second_word operands) known left old mid)
     → IfErr r (FailsWith reads steady format verb given (second_word operands) known left old mid)
@@ -29,7 +29,7 @@ module _ (syntax : List ℕ) (reads : ℕ) (steady : Type 0) (verb : Verb) (give
   other_plain mid (Ok done) other e = rw other e
   other_plain mid (Err f) other e = rw other e
 
-  -- A call about messages of a type ends as such a call, and another as another.
+  -- If the call is about messages of a type, and ends and is reported as such a call, it does so as a call.
   pub typed_reported : is_typed verb operands ≡ true → IsReported (EndsTyped reads steady verb given operands known left old) new status
       → IsReported (EndsPlain syntax reads steady verb given operands known left old) new status
   typed_reported typed (outcome, mid, ended, reports) = (outcome, mid, typed_plain mid outcome typed ended, reports)

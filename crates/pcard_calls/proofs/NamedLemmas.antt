@@ -21,7 +21,7 @@ use Rattle.pcard_calls.specs.declared.convert.Task.TheVariants as tasks
 pub above : (m n : ℕ) → (m ≤ n → ⊥) → n < m
 above m n none = omega arith
 
--- A value that doesn't refuse itself is too long if it is refused where each value of at most 4,096 bytes is taken.
+-- If encoding a value fails, and each value of at most 4,096 bytes fails only as it refuses itself, `IsTooLong` holds of the value.
 pub too_long : {T : Type 0} (shape : Shape T) (v : T) (e : Error)
     → (length (canonical (shape.tree v)) ≤ 4096 → shape.refusal v e) → IsErrorOf shape v e
     → IsTooLong shape v e
@@ -34,24 +34,24 @@ too_long shape v e own named willing prints = (
   buffer_full (inl (inr text)) = absurd (prints text.0)
   buffer_full (inr refused) = absurd (willing.has_none e refused)
 
--- The library's error is `OutOfMemory`, or no value is there.
+-- If an error other than `OutOfMemory` means that no value is there, the error is `OutOfMemory`, or no value is there.
 pub memory_or_none : (other : Error → Type 0) (none : Type 0) (e : Error) → IsReadError other e
     → (e ≢ OutOfMemory → none) → ((e ≡ OutOfMemory) × other OutOfMemory) ⊎ (IsReadError other e × none)
 memory_or_none other none OutOfMemory h f = inl (refl, h)
 memory_or_none other none e h f = inr (h, f (λ is. cc is))
 
--- The values of a type, whose words are those of `says`, and which `none` says not to be one.
+-- The form of values of type T: `says` is which word says a value, and `none` which words say no value.
 abbrev spoken : {T : Type 0} → Shape T → (T → Option (List ℕ)) → (List ℕ → T → Type 0) → (List ℕ → Type 0) → Form
 spoken {T = T} shape text_of says none = record { values = T; shape = shape; says = says; says_none = none; text_of = text_of }
 
 module _ {T : Type 0} (shape : Shape T) (text_of : T → Option (List ℕ)) (p q : List ℕ → T → Type 0) (a b : List ℕ → Type 0) (old new : Option (List ℕ))
     (less : (word : List ℕ) (v : T) → p word v → q word v) (fewer : (word : List ℕ) → a word → b word) where
-  -- What is done of a value that a word says is done of it too where the word has to say less.
+  -- If `p` implies `q`, what is done of a value by `p` is done of it by `q`.
   does_said : (task : Task) → Does task (spoken shape text_of p a) old new → Does task (spoken shape text_of q b) old new
   does_said (tasks.Encode word) d = record { value = d.value; said = less word.now d.value d.said; printed = d.printed }
   does_said (tasks.Decode bytes) d = record { value = d.value; rest = d.rest; is = d.is; printed = d.printed }
 
-  -- A failure where a word has to say less.
+  -- If `p` implies `q`, and `a` implies `b`, a failure to encode by `p` and `a` is one by `q` and `b`.
   encoding_said : (word : List ℕ) (failure : Failure) → EncodingFails (spoken shape text_of p a) word failure → EncodingFails (spoken shape text_of q b) word failure
   encoding_said word BadValue h = fewer word h
   encoding_said word (Library e) (inl memory) = inl memory
@@ -59,6 +59,7 @@ module _ {T : Type 0} (shape : Shape T) (text_of : T → Option (List ℕ)) (p q
   encoding_said word Output h = tt
   encoding_said word failure h = absurd h
 
+  -- A failure to decode doesn't depend on what a word says.
   decoding_said : (bytes : List ℕ) (failure : Failure) → DecodingFails (spoken shape text_of p a) bytes failure → DecodingFails (spoken shape text_of q b) bytes failure
   decoding_said bytes (Library e) h = h
   decoding_said bytes Output h = tt
@@ -72,13 +73,13 @@ module _ {T : Type 0} (shape : Shape T) (text_of : T → Option (List ℕ)) (p q
   converts_said (Ok done) task d = does_said task d
   converts_said (Err failure) task h = fails_said task failure h
 
--- What is done of a task is done of it too where a word has to say less, and to be refused for less.
+-- If `p` implies `q`, and `a` implies `b`, a task that ends as it may by `p` and `a` does so by `q` and `b`.
 pub said : {T : Type 0} (shape : Shape T) (text_of : T → Option (List ℕ)) (p q : List ℕ → T → Type 0) (a b : List ℕ → Type 0) (old new : Option (List ℕ))
     (r : Result (Unit {0}) Failure) (task : Task) → Converts task (spoken shape text_of p a) old new r → ((word : List ℕ) (v : T) → p word v → q word v)
     → ((word : List ℕ) → a word → b word) → Converts task (spoken shape text_of q b) old new r
 said shape text_of p q a b old new r task d less fewer = converts_said shape text_of p q a b old new less fewer r task d
 
--- The same where std's `parse` reads the word, and another relation says less of it.
+-- The same for one word, where `p` is the contract of std's `parse` and `q` another relation between a word and its result.
 pub scalar_said : {T E F : Type 0} (shape : Shape T) (p : List ℕ → Result T E → Type 0) (q : List ℕ → Result T F → Type 0) (text_of : T → Option (List ℕ)) (old new : Option (List ℕ))
     (r : Result (Unit {0}) Failure) (task : Task) → ((word : List ℕ) (v : T) → p word (Ok v) → q word (Ok v)) → ((word : List ℕ) (e : E) → p word (Err e) → (f : F) × q word (Err f))
     → Converts task (one_word shape p text_of) old new r → Converts task (one_word shape q text_of) old new r
@@ -86,7 +87,7 @@ scalar_said {T = T} {E = E} {F = F} shape p q text_of old new r task less fewer 
     said shape text_of (λ word v. p word (Ok v)) (λ word v. q word (Ok v)) (λ word. (e : E) × p word (Err e)) (λ word. (f : F) × q word (Err f)) old new r task d less
     (λ word h. fewer word h.0 h.1)
 
--- The same of lists: what is asked of each word.
+-- If `p` implies `q` where the result is `Ok`, words that say values by `p` say them by `q`.
 each_said : {T E F : Type 0} (p : List ℕ → Result T E → Type 0) (q : List ℕ → Result T F → Type 0) (words : List (List ℕ)) (vs : List T) → SayEach p words vs
     → ((word : List ℕ) (v : T) → p word (Ok v) → q word (Ok v)) → SayEach q words vs
 each_said p q [] [] h less = h
@@ -94,6 +95,7 @@ each_said p q [] (v ∷ vs) h less = h
 each_said p q (word ∷ words) [] h less = h
 each_said p q (word ∷ words) (v ∷ vs) h less = (less word v h.0, each_said p q words vs h.1 less)
 
+-- The same as `scalar_said` for a list of words.
 pub list_said : {T E F : Type 0} (shape : Shape T) (p : List ℕ → Result T E → Type 0) (q : List ℕ → Result T F → Type 0) (text_of : T → Option (List ℕ)) (old new : Option (List ℕ))
     (r : Result (Unit {0}) Failure) (task : Task) → ((word : List ℕ) (v : T) → p word (Ok v) → q word (Ok v)) → ((word : List ℕ) (e : E) → p word (Err e) → (f : F) × q word (Err f))
     → Converts task (list_of shape p text_of) old new r → Converts task (list_of shape q text_of) old new r

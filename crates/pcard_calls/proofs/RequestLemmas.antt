@@ -1,4 +1,4 @@
--- Lemmas on words that are no request.
+-- Which words are no request. Words are one call at most, so a call whose TYPE is unknown is no other request either.
 use Rattle.std.proofs.Common.{◌≡◌, sym, subst, ℕ, List}
 use Rattle.pcard_call.proofs.OneReading.{not_misused, same_call}
 use Rattle.pcard_call.specs.Calls.{IsCall, IsMisuse}

@@ -1,4 +1,5 @@
--- How many bytes the frames of messages have whose sizes are bounded, and what is printed of a type's sizes.
+-- Bounds of the sizes of frames, from those of the messages, and what `size` prints. A frame has at least a code byte and a zero more
+-- than its data, and one more byte for each 254 bytes of it.
 use Rattle.std.proofs.Common.{◌≡◌, ℕ, ◌+◌, ◌/◌, ◌≤◌, List, [], ◌∷◌, ◌++◌, length, Bool, true, false, cond, eqb, arith, length-append, sym, ap, subst}
 use Rattle.std.specs.Prelude.{Option, Some, None, Result, Ok, Err, OnOk, flat_map}
 use Rattle.std.specs.Io.KnownBytes.{Appends}
@@ -16,7 +17,7 @@ use Rattle.postcard_schema_size.specs.Least.{IsLeastSize}
 use Rattle.postcard_schema_size.specs.Sizes.{limit}
 use Rattle.pcard_calls.specs.Size.{least_number, bounded_text, endless_text, size_text, FramesAreWithin, PrintsSize}
 
--- A group takes at least as many bytes in a frame as in the data.
+-- If two lists have at most one byte, so has the one that the test picks.
 at_most_one : (b : Bool) (none one : List ℕ) → length none ≤ 1 → length one ≤ 1 → length (cond b none one) ≤ 1
 at_most_one true none one h k = h
 at_most_one false none one h k = k
@@ -25,6 +26,7 @@ at_most_one false none one h k = k
 coded_fits : (g : List ℕ) → length (followed g) ≤ length (coded g)
 coded_fits g = omega (arith, at_most_one (eqb (length g) 254) [] (0 ∷ []) (omega arith) (omega arith), length-append g (gap g))
 
+-- The bytes of groups without their code bytes are no more than with them.
 all_fit : (gs : List (List ℕ)) → length (flat_map followed gs) ≤ length (flat_map coded gs)
 all_fit [] = omega arith
 all_fit (g ∷ gs) = omega (arith, coded_fits g, all_fit gs, length-append (followed g) (flat_map followed gs), length-append (coded g) (flat_map coded gs))
@@ -38,10 +40,12 @@ made_longer d m is =
 least_frame : (d : List ℕ) → length d + 2 ≤ length (made d)
 least_frame d = made_longer d (made d) (made_is_made d)
 
+-- Each tree of the set has at least as many bytes as its least size says.
 least_bytes : (least : Option ℕ) (has : Tree → Type 0) (t : Tree) → IsLeastSize least has → has t → least_number least ≤ tree_len t
 least_bytes None has t h r = h t r
 least_bytes (Some n) has t h r = h.none_shorter t r
 
+-- If messages have a least and perhaps a greatest size, their frames are within the numbers that `size` prints of frames.
 pub frames_within : (least greatest : Option ℕ) (has : Tree → Type 0) → IsLeastSize least has → AreBounded greatest has → FramesAreWithin (least_number least) greatest has
 frames_within least None has h k = tt
 frames_within least (Some n) has h k = λ t r.
@@ -51,12 +55,12 @@ frames_within least (Some n) has h k = λ t r.
     let more : length d / 254 ≤ n / 254 = omega arith in
     (omega (arith, low, least_frame d), omega (arith, high, more, made_length d))
 
--- What holds after a success follows from a stronger fact.
+-- If P implies Q, and P holds after a success, so does Q.
 pub on_ok_as : {E : Type 0} (r : Result (Unit {0}) E) (P Q : Type 0) → (P → Q) → OnOk r P → OnOk r Q
 on_ok_as (Ok done) P Q f h = f h
 on_ok_as (Err e) P Q f h = tt
 
--- A call that prints of the sizes of an expression's type what they are prints its sizes.
+-- If the text of the sizes of an expression's type is printed, `PrintsSize` holds of the expression.
 module _ (expression : List ℕ) (schema : Schema) (least greatest : Option ℕ) (old new : Option (List ℕ)) (spelled : IsExpression schema expression)
     (low : IsLeastSize least (reads (type_of schema))) (high : AreBounded greatest (reads (type_of schema))) (is : greatest ≡ (limit (type_of schema)).greatest) where
   prints : Appends old new (size_text (least_number least) greatest (endless schema) ++ 10 ∷ []) → PrintsSize expression old new

@@ -1,4 +1,4 @@
--- What a call prints, and how it fails: the options that are given are fields of `given`.
+-- What a call prints, and when each failure comes. The fields of `given` are the options of the call.
 use Rattle.std.specs.Prelude.{◌≡◌, ◌⊎◌, ⊤, ℕ, Bool, true, false, List, [], ◌∷◌, Option, Result, Err, MatchBool, MatchResult, unwrap_or}
 use Rattle.std.specs.Io.KnownBytes.{Appends}
 use Rattle.pcard_bytes.specs.Input.{HexFails, InputFails, IsInput, StandsFor}
@@ -34,11 +34,12 @@ abbrev pub IsGiven : Bool → List ℕ → Option (List ℕ) → Option (List �
 IsGiven true hex known left bytes = IsInput known left bytes
 IsGiven false hex known left bytes = StandsFor hex known left bytes
 
+-- When each failure of reading the bytes of a call comes.
 abbrev pub GivenFails : ℕ → Type 0 → Bool → List ℕ → Option (List ℕ) → Option (List ℕ) → InputError → Type 0
 GivenFails reads steady true hex known left e = InputFails reads steady known left e
 GivenFails reads steady false hex known left e = HexFails reads steady hex known left e
 
--- The bytes of a call can't be read, or what is done with them fails so.
+-- The failure is that of reading the bytes of a call, or one that `Fails` says of the bytes.
 abbrev pub BytesFail : ℕ → Type 0 → Bool → List ℕ → Option (List ℕ) → Option (List ℕ) → (List ℕ → Type 0) → Failure → Type 0
 BytesFail reads steady raw hex known left Fails failure =
     ((e : InputError) × GivenFails reads steady raw hex known left e × (failure ≡ failure_of_input e))
@@ -46,7 +47,7 @@ BytesFail reads steady raw hex known left Fails failure =
 
 -- ---- messages of a format
 
--- The greatest length of a frame of a stream, its zero included.
+-- The greatest length of a frame of a stream, its zero included: 65,536 bytes if the option isn't given.
 abbrev pub longest_of : Given → ℕ
 longest_of given = unwrap_or given.longest 65536
 
@@ -55,6 +56,7 @@ abbrev pub PrintsFrames : Format → ℕ → Bool → List ℕ → Option (List 
 PrintsFrames format longest true hex known left old new = (bytes : List ℕ) × StandsFor hex known left bytes × PrintsLines format longest bytes old new
 PrintsFrames format longest false hex known left old new = PrintsStream format longest known left old new
 
+-- When each failure of `frames TYPE` comes.
 abbrev pub FramesFailWith : ℕ → Type 0 → Format → ℕ → Bool → List ℕ → Option (List ℕ) → Option (List ℕ) → Option (List ℕ) → Option (List ℕ) → Failure → Type 0
 FramesFailWith reads steady format longest true hex known left old new failure =
     BytesFail reads steady false hex known left (λ bytes. LinesFail format failure) failure
@@ -71,6 +73,7 @@ PrintsWith format verbs.Explain given text known left old new =
     (bytes : List ℕ) × IsGiven given.raw text known left bytes × PrintsExplained format given.all bytes old new
 PrintsWith format verb given text known left old new = PrintsFrames format (longest_of given) given.hex text known left old new
 
+-- When each failure of a call about messages of this format comes.
 abbrev pub FailsWith : ℕ → Type 0 → Format → Verb → Given → List ℕ → Option (List ℕ) → Option (List ℕ) → Option (List ℕ) → Option (List ℕ) → Failure → Type 0
 FailsWith reads steady format verbs.Encode given text known left old new failure = EncodeFails format text failure
 FailsWith reads steady format verbs.Decode given text known left old new failure =
@@ -89,6 +92,7 @@ abbrev pub PrintsNamed : Verb → Form → List ℕ → Option (List ℕ) → Op
 PrintsNamed verbs.Encode form text old new = PrintsEncoding form text old new
 PrintsNamed verb form text old new = PrintsNamedDecode form text old new
 
+-- When each failure of `enc` or `dec` comes for a type that has a name.
 abbrev pub NamedFails : Verb → Form → List ℕ → Failure → Type 0
 NamedFails verbs.Encode form text failure = EncodingFails form text failure
 NamedFails verb form text failure = NamedDecodeFails form text failure
@@ -98,6 +102,7 @@ abbrev pub PrintsChecksums : List (List ℕ) → Option (List ℕ) → Option (L
 PrintsChecksums [] known left old new = Appends old new CATALOG.now
 PrintsChecksums (name ∷ words) known left old new = PrintsChecksum name (first_word words) known left old new
 
+-- When each failure of `crc` comes.
 abbrev pub ChecksumsFail : ℕ → Type 0 → List (List ℕ) → Option (List ℕ) → Option (List ℕ) → Failure → Type 0
 ChecksumsFail reads steady [] known left failure = failure ≡ Output
 ChecksumsFail reads steady (name ∷ words) known left failure = ChecksumFails reads steady name (first_word words) known left failure
@@ -107,6 +112,7 @@ abbrev pub PrintsTyped : Verb → Given → List (List ℕ) → Option (List ℕ
 PrintsTyped verb given operands known left old new =
     (format : Format) × IsFormat given (first_word operands) format × PrintsWith format verb given (second_word operands) known left old new
 
+-- When each failure of a call with TYPE comes.
 abbrev pub TypedFails : ℕ → Type 0 → Verb → Given → List (List ℕ) → Option (List ℕ) → Option (List ℕ) → Option (List ℕ) → Option (List ℕ) → Failure → Type 0
 TypedFails reads steady verb given operands known left old new failure =
     FormatFails given (first_word operands) failure
@@ -130,6 +136,7 @@ PrintsOther syntax verbs.Key given operands known left old new = PrintsKey (firs
 PrintsOther syntax verbs.Checksum given operands known left old new = PrintsChecksums operands known left old new
 PrintsOther syntax verb given operands known left old new = PrintsAnswers known left old new
 
+-- When each failure of any other call comes.
 abbrev pub OtherFails : ℕ → Type 0 → Verb → List (List ℕ) → Option (List ℕ) → Option (List ℕ) → Option (List ℕ) → Option (List ℕ) → Failure → Type 0
 OtherFails reads steady verbs.Types operands known left old new failure = failure ≡ Output
 OtherFails reads steady verbs.Size operands known left old new failure = SizeFails (first_word operands) failure
@@ -142,39 +149,41 @@ abbrev pub Prints : List ℕ → Verb → Given → List (List ℕ) → Option (
 Prints syntax verb given operands known left old new =
     MatchBool (is_typed verb operands) (PrintsTyped verb given operands known left old new) (PrintsOther syntax verb given operands known left old new)
 
--- The failures of a call. A steady input's reads don't fail.
+-- When each failure of a call comes. A read of a steady input doesn't fail.
 abbrev pub Fails : ℕ → Type 0 → Verb → Given → List (List ℕ) → Option (List ℕ) → Option (List ℕ) → Option (List ℕ) → Option (List ℕ) → Failure → Type 0
 Fails reads steady verb given operands known left old new failure =
     MatchBool (is_typed verb operands) (TypedFails reads steady verb given operands known left old new failure)
     (OtherFails reads steady verb operands known left old new failure)
 
--- A call with TYPE ended so: it printed what it prints, or failed.
+-- The outcome of a call with TYPE: it printed what `PrintsTyped` says, or failed as `TypedFails` says.
 abbrev pub EndsTyped : ℕ → Type 0 → Verb → Given → List (List ℕ) → Option (List ℕ) → Option (List ℕ) → Option (List ℕ) → Option (List ℕ) → Result (Unit {0}) Failure → Type 0
 EndsTyped reads steady verb given operands known left old new outcome =
     MatchResult outcome (λ done. PrintsTyped verb given operands known left old new)
     (λ failure. TypedFails reads steady verb given operands known left old new failure)
 
--- The same of another call, and of any call whose TYPE is no name.
+-- The outcome of any other call: it printed what `PrintsOther` says, or failed as `OtherFails` says.
 abbrev pub EndsOther : List ℕ → ℕ → Type 0 → Verb → Given → List (List ℕ) → Option (List ℕ) → Option (List ℕ) → Option (List ℕ) → Option (List ℕ) → Result (Unit {0}) Failure → Type 0
 EndsOther syntax reads steady verb given operands known left old new outcome =
     MatchResult outcome (λ done. PrintsOther syntax verb given operands known left old new)
     (λ failure. OtherFails reads steady verb operands known left old new failure)
 
+-- The outcome of any call whose TYPE is no name.
 abbrev pub EndsPlain : List ℕ → ℕ → Type 0 → Verb → Given → List (List ℕ) → Option (List ℕ) → Option (List ℕ) → Option (List ℕ) → Option (List ℕ) → Result (Unit {0}) Failure → Type 0
 EndsPlain syntax reads steady verb given operands known left old new outcome =
     MatchResult outcome (λ done. Prints syntax verb given operands known left old new)
     (λ failure. Fails reads steady verb given operands known left old new failure)
 
--- The same where TYPE stands for a name or an expression.
+-- What a call prints where TYPE stands for a name or an expression.
 abbrev pub PrintsAs : List ℕ → Verb → Given → List (List ℕ) → TypeWord → Option (List ℕ) → Option (List ℕ) → Option (List ℕ) → Option (List ℕ) → Type 0
 PrintsAs syntax verb given operands (Named kind) known left old new = PrintsNamed verb (form_of kind) (second_word operands) old new
 PrintsAs syntax verb given operands Expression known left old new = Prints syntax verb given operands known left old new
 
+-- When each failure of such a call comes.
 abbrev pub FailsAs : ℕ → Type 0 → Verb → Given → List (List ℕ) → TypeWord → Option (List ℕ) → Option (List ℕ) → Option (List ℕ) → Option (List ℕ) → Failure → Type 0
 FailsAs reads steady verb given operands (Named kind) known left old new failure = NamedFails verb (form_of kind) (second_word operands) failure
 FailsAs reads steady verb given operands Expression known left old new failure = Fails reads steady verb given operands known left old new failure
 
--- A call ended so: it printed what it prints, or failed.
+-- The outcome of a call: it printed what `PrintsAs` says, or failed as `FailsAs` says.
 abbrev pub EndsAs : List ℕ → ℕ → Type 0 → Verb → Given → List (List ℕ) → TypeWord → Option (List ℕ) → Option (List ℕ) → Option (List ℕ) → Option (List ℕ) → Result (Unit {0}) Failure → Type 0
 EndsAs syntax reads steady verb given operands kind known left old new outcome =
     MatchResult outcome (λ done. PrintsAs syntax verb given operands kind known left old new)
@@ -182,7 +191,7 @@ EndsAs syntax reads steady verb given operands kind known left old new outcome =
 
 -- ---- words
 
--- The words are a call, and it ended so; or they are none, which is a failure of its own.
+-- The words are a call with this outcome. Or they are no call, the outcome is the failure `Usage`, and nothing is printed.
 abbrev pub Ends : List ℕ → ℕ → Type 0 → List (List ℕ) → Option (List ℕ) → Option (List ℕ) → Option (List ℕ) → Option (List ℕ) → Result (Unit {0}) Failure → Type 0
 Ends syntax reads steady words known left old new outcome =
     ((verb : Verb) × (given : Given) × (operands : List (List ℕ)) × (kind : TypeWord) × IsRequest words verb given operands kind

@@ -24,7 +24,7 @@ pub record PrintsChecksum (name hex : List ℕ) (known left old new : Option (Li
 abbrev pub IsHexFailure : ℕ → Type 0 → List ℕ → Option (List ℕ) → Option (List ℕ) → Failure → Type 0
 IsHexFailure reads steady hex known left failure = (e : InputError) × HexFails reads steady hex known left e × (failure ≡ failure_of_input e)
 
--- The failures of `crc NAME HEX`.
+-- When each failure of `crc NAME HEX` comes.
 abbrev pub ChecksumFails : ℕ → Type 0 → List ℕ → List ℕ → Option (List ℕ) → Option (List ℕ) → Failure → Type 0
 ChecksumFails reads steady name hex known left (UnknownChecksum word) = IsNameFailure name (UnknownChecksum word)
 ChecksumFails reads steady name hex known left Output = ⊤

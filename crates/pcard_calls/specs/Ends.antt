@@ -21,8 +21,8 @@ abbrev pub last_line : Result (Unit {0}) Failure → List ℕ
 last_line (Ok done) = []
 last_line (Err failure) = failure_line failure
 
--- The outcome of a call is reported: the line of its failure is printed, if it failed, and the status is that of the outcome; or else the
--- status is 3.
+-- The outcome of a call is reported: the status is that of the outcome, and if the call failed, the line of its failure is printed.
+-- Or the status is 3, whatever the outcome is.
 abbrev pub Reports : Result (Unit {0}) Failure → Option (List ℕ) → Option (List ℕ) → ℕ → Type 0
 Reports outcome old new status = (status ≡ 3) ⊎ ((status ≡ exit_status outcome) × Appends old new (last_line outcome))
 
@@ -30,7 +30,7 @@ Reports outcome old new status = (status ≡ 3) ⊎ ((status ≡ exit_status out
 abbrev pub AnswersFailure : Failure → Option (List ℕ) → Option (List ℕ) → ℕ → Type 0
 AnswersFailure failure old new status = Reports (Err failure) old new status
 
--- An outcome to which a call comes was reported by its status.
+-- Some outcome that `Comes` allows was reported by this status.
 abbrev pub IsReported : (Option (List ℕ) → Result (Unit {0}) Failure → Type 0) → Option (List ℕ) → ℕ → Type 0
 IsReported Comes new status =
     (outcome : Result (Unit {0}) Failure) × (mid : Option (List ℕ)) × Comes mid outcome × Reports outcome mid new status

@@ -25,12 +25,13 @@ use Rattle.pcard_print.specs.declared.notation.Notation.TheVariants.{Text, Json}
 
 -- ---- rows
 
--- The most elements of a list that have rows of their own.
+-- The most elements of a list that have rows of their own: 16 as text without `all`, and else 2^64 - 1.
 abbrev pub most_of : Notation → Bool → ℕ
 most_of Text false = 16
 most_of notation all = 2 ^ 64 - 1
 
--- The lines explain the data: those of a value and of the bytes after it, or those up to the part that can't be read.
+-- The lines explain the data. Without an error they are those of a value and the bytes after it, and else those up to the part that
+-- can't be read.
 abbrev pub AreLinesOf : Schema → ℕ → List ℕ → Option Error → List Line → Type 0
 AreLinesOf schema most content None lines = IsExplained most schema content lines
 AreLinesOf schema most content (Some error) lines = HasNoFront schema content × IsExplainedUpTo most schema lines
@@ -66,6 +67,7 @@ pub record PrintsBoth (format : Format) (all : Bool) (bytes : List ℕ) (old new
   pub after_row : PrintsNotes (frame_layout format.notation frame) (beyond_notes (length frame + 1) after) coded mid
   pub content_rows : PrintsRowsOf format all content mid new
 
+-- The rows of the first frame are printed, or nothing if the bytes begin with no frame that has data.
 abbrev pub PrintsFrameRows : Format → Bool → List ℕ → Option (List ℕ) → Option (List ℕ) → Type 0
 PrintsFrameRows format all bytes old new = PrintsBoth format all bytes old new ⊎ (HasNoData bytes × (new ≡ old))
 
@@ -90,7 +92,7 @@ pub record StopsExplaining (format : Format) (all : Bool) (bytes : List ℕ) (ol
   pub rows : PrintsRowsIn format.framed format all bytes old mid
   pub refusal : PrintsRefusal format 0 bytes mid new
 
--- The failures of `explain`.
+-- When each failure of `explain` comes.
 abbrev pub ExplainFails : Format → Bool → List ℕ → Option (List ℕ) → Option (List ℕ) → Failure → Type 0
 ExplainFails format all bytes old new Refused = StopsExplaining format all bytes old new
 ExplainFails format all bytes old new (Library e) = (e ≡ errors.OutOfMemory) ⊎ LacksLine format.notation e

@@ -25,7 +25,7 @@ pub record PrintsKey (expression : List ℕ) (names : Bool) (old new : Option (L
   pub is : IsKeyOf names schema number
   pub printed : Appends old new (encode_lower (to_be_bytes w64 number) ++ 10 ∷ [])
 
--- The failures of `key`.
+-- When each failure of `key` comes.
 abbrev pub KeyFails : List ℕ → Failure → Type 0
 KeyFails expression Output = ⊤
 KeyFails expression failure = TypeFails expression failure

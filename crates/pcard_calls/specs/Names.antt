@@ -25,14 +25,14 @@ name_of Str = codes "str"
 name_of ListU8 = codes "list-u8"
 name_of ListU32 = codes "list-u32"
 
--- Whether the word begins with `(`, `[`, `{` or `&`.
+-- Whether the word begins with `(` (40), `[` (91), `{` (123) or `&` (38).
 abbrev pub begins_expression : List ℕ → TruthValue
 begins_expression word =
     if starts_with nat_eq word (40 ∷ []) then true else
     if starts_with nat_eq word (91 ∷ []) then true else
     if starts_with nat_eq word (123 ∷ []) then true else starts_with nat_eq word (38 ∷ [])
 
--- Whether the word begins so, ends with `?` or `>`, holds a `|`, or is `f32` or `f64`.
+-- Whether the word begins with one of these, ends with `?` (63) or `>` (62), has a `|` (124), or is `f32` or `f64`.
 abbrev pub looks_like_expression : List ℕ → TruthValue
 looks_like_expression word =
     if begins_expression word then true else

@@ -13,7 +13,7 @@ use Rattle.pcard_calls.specs.declared.names.TypeWord.TheVariants.{Expression}
 use Rattle.pcard_calls.specs.declared.request.NoCall.{NoCall}
 use Rattle.pcard_calls.specs.declared.request.NoCall.TheVariants.{Misuse, UnknownType}
 
--- The first of some words, and the second, or else the empty word.
+-- The first of some words, or the empty word.
 abbrev pub first_word : List (List ℕ) → List ℕ
 first_word [] = []
 first_word (word ∷ words) = word
@@ -53,7 +53,7 @@ IsWhyNoCall words (UnknownType word) =
 abbrev pub is_string : List ℕ → Bool
 is_string word = pointwise nat_eq word (codes "String")
 
--- The word has a colon, as one that names a type in a file.
+-- The word has a colon (58), as one that names a type in a file.
 abbrev pub has_colon : List ℕ → Bool
 has_colon word = list_any (λ b. nat_eq b 58) word
 

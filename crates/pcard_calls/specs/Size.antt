@@ -37,6 +37,7 @@ abbrev pub first_text : List PlainStep → List ℕ
 first_text [] = codes ": the value"
 first_text (s ∷ path) = codes ": " ++ plain_text (s ∷ path)
 
+-- The paths, each after a comma and a blank.
 abbrev pub others_text : List (List PlainStep) → List ℕ
 others_text paths = flat_map (λ path. codes ", " ++ plain_text path) paths
 
@@ -49,6 +50,7 @@ parts_text (path ∷ paths) = first_text path ++ others_text paths
 abbrev pub endless_text : ℕ → List (List PlainStep) → List ℕ
 endless_text least paths = codes "bytes: at least " ++ (decimal least ++ (codes ", no greatest number" ++ parts_text paths))
 
+-- The text of the sizes: with a greatest number or without one.
 abbrev pub size_text : ℕ → Option ℕ → List (List PlainStep) → List ℕ
 size_text least (Some greatest) paths = bounded_text least greatest
 size_text least None paths = endless_text least paths
@@ -71,7 +73,7 @@ pub record PrintsSize (expression : List ℕ) (old new : Option (List ℕ)) : Ty
   pub frames : FramesAreWithin (least_number least) (limit (type_of schema)).greatest (reads (type_of schema))
   pub printed : Appends old new (size_text (least_number least) (limit (type_of schema)).greatest (endless schema) ++ 10 ∷ [])
 
--- The failures of `size`.
+-- When each failure of `size` comes.
 abbrev pub SizeFails : List ℕ → Failure → Type 0
 SizeFails expression Output = ⊤
 SizeFails expression failure = TypeFails expression failure

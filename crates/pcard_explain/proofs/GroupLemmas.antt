@@ -8,7 +8,7 @@ use Rattle.pcard_explain.specs.Laws.{group_notes}
 use Rattle.pcard_explain.specs.Notes.{Noted, code, frame_notes, has_zero}
 use Rattle.pcard_explain.proofs.RowLemmas.{in_group}
 
--- The bytes of a group have no rows of their own, only its code byte has one.
+-- The bytes of a group have no rows: the rows from its first byte on are those from the byte after it on.
 skipped : (at : ℕ) (group rest : List ℕ) → frame_notes at (length group) (group ++ rest) ≡ frame_notes (at + length group) 0 rest
 skipped at [] rest =
     let same : at ≡ at + 0 = omega arith in
@@ -19,7 +19,7 @@ skipped at (b ∷ group) rest =
     in_group at (length (b ∷ group)) b (group ++ rest) (omega arith) ∙ ap (λ (n : ℕ). frame_notes (at + 1) n (group ++ rest)) fewer ∙ skipped (at + 1) group rest
     ∙ ap (λ (n : ℕ). frame_notes n 0 rest) along
 
--- The row of a group's code byte, and those after the group.
+-- The rows from a group's code byte on are the row of that byte, and then those after the group.
 group_shown : (at : ℕ) (group rest : List ℕ) (zero : Bool) → has_zero (length group + 1) (length (group ++ rest)) ≡ zero
     → frame_notes at 0 (coded group ++ rest)
     ≡ record { at = at; bytes = (length group + 1) ∷ []; note = code (length group + 1) zero } ∷ frame_notes (at + (length group + 1)) 0 rest
@@ -38,13 +38,13 @@ never : (b : Bool) → (b && false) ≡ false
 never true = refl
 never false = refl
 
--- No zero comes after the last group.
+-- The last group has no zero after it. A code byte below 255 stands for a zero after its group, unless the frame ends there.
 no_zero : (group : List ℕ) → has_zero (length group + 1) (length (group ++ [])) ≡ false
 no_zero group =
     let none : nat_lt (length group + 1 - 1) (length (group ++ [])) ≡ false = le-ltb (length group + 1 - 1) (length (group ++ [])) (omega (arith, length-append group [])) in
     ap (λ (b : Bool). nat_lt (length group + 1) 255 && b) none ∙ never (nat_lt (length group + 1) 255)
 
--- A group that isn't full and that another follows has a zero after it.
+-- A group that another follows has a zero after it exactly if it isn't full, which is 254 bytes.
 a_zero : (group rest : List ℕ) → length group ≤ 254 → 0 < length rest → has_zero (length group + 1) (length (group ++ rest)) ≡ not (eqb (length group) 254)
 a_zero group rest fits some = elim (cases_eq (length group) 254) [
   | inl full ↦

@@ -1,4 +1,5 @@
--- Lemmas on the path of each line, and on the parts around it.
+-- The path of each line. The code keeps a list of open parts. A part that is less deep than a line is around it, and says how many steps
+-- its path has.
 use Rattle.std.proofs.Common.{◌≡◌, ℕ, ◌+◌, ◌-◌, ◌<◌, ◌≤◌, inl, inr, Bool, true, false, List, [], ◌∷◌, ◌++◌, length, take, drop, get_or, refl, sym, ap, ◌∙◌, arith, length-append}
 use Rattle.std.specs.Prelude.{if◌then◌else◌, nat_lt}
 use Rattle.std.proofs.lemmas.Bool.{cases_lt, lt-ltb, le-ltb, ltb-false, ltb-true}
@@ -11,49 +12,49 @@ use Rattle.pcard_explain.specs.declared.place.Place.{Place}
 
 -- ---- open parts
 
--- The steps around a line, if one part more is open at the end.
+-- With one more open part at the end, the number of steps around a line is that part's if it is less deep, and else as before.
 last_more : (found : ℕ) (xs : List Open) (o : Open) (d : ℕ) → last_steps found (xs ++ o ∷ []) d ≡ (if nat_lt o.depth d then o.steps else last_steps found xs d)
 last_more found [] o d = refl
 last_more found (x ∷ xs) o d = last_more (if nat_lt x.depth d then x.steps else found) xs o d
 
--- A last part that isn't less deep than the line is not around it.
+-- If the last open part isn't less deep than the line, it doesn't change the number of steps around the line.
 pub not_around : (xs : List Open) (o : Open) (d depth : ℕ) → depth ≤ o.depth → d ≤ depth → steps_in (xs ++ o ∷ []) d ≡ steps_in xs d
 not_around xs o d depth deep low =
     let no : nat_lt o.depth d ≡ false = le-ltb o.depth d (omega arith) in
     last_more 0 xs o d ∙ ap (λ (b : Bool). if b then o.steps else steps_in xs d) no
 
--- A last part that is less deep than the line is around it.
+-- If the last open part is less deep than the line, the number of steps around the line is that part's.
 pub is_around : (xs : List Open) (o : Open) (d : ℕ) → o.depth < d → steps_in (xs ++ o ∷ []) d ≡ o.steps
 is_around xs o d less =
     let yes : nat_lt o.depth d ≡ true = lt-ltb o.depth d less in
     last_more 0 xs o d ∙ ap (λ (b : Bool). if b then o.steps else steps_in xs d) yes
 
--- A list that isn't empty is its first parts and its last part.
+-- A list that isn't empty is all its parts but the last, and then the last.
 last_is : (xs : List Open) (o : Open) → 0 < length xs → o ≡ get_or xs (length xs - 1) o → take (length xs - 1) xs ++ o ∷ [] ≡ xs
 last_is xs o some is =
     let i = length xs - 1 in
     ap (λ (p : Open). take i xs ++ p ∷ []) is ∙ sym (take_more xs i o (omega arith)) ∙ take_all (i + 1) xs (omega arith)
 
--- Removing the last open part, which is no less deep than the line, changes no path around a line of this depth.
+-- Removing the last open part doesn't change the number of steps around a line that isn't deeper than it.
 pub one_fewer : (xs : List Open) (o : Open) (d depth : ℕ) → 0 < length xs → o ≡ get_or xs (length xs - 1) o → depth ≤ o.depth → d ≤ depth
     → steps_in (take (length xs - 1) xs) d ≡ steps_in xs d
 one_fewer xs o d depth some is deep low =
     sym (not_around (take (length xs - 1) xs) o d depth deep low) ∙ ap (λ (ys : List Open). steps_in ys d) (last_is xs o some is)
 
--- If the last open part is less deep than the line, it is around the line.
+-- If the last of a list of open parts is less deep than the line, its number of steps is that around the line.
 pub last_around : (xs : List Open) (o : Open) (d : ℕ) → 0 < length xs → o ≡ get_or xs (length xs - 1) o → o.depth < d → o.steps ≡ steps_in xs d
 last_around xs o d some is less =
     sym (is_around (take (length xs - 1) xs) o d less) ∙ ap (λ (ys : List Open). steps_in ys d) (last_is xs o some is)
 
 -- ---- the path of a line
 
--- Fewer steps of the first k steps and others are those of all.
+-- The first j of the first k steps and others are the first j of all steps, if j ≤ k.
 take_fewer : (j k : ℕ) (xs ys : List PlainStep) → j ≤ k → k ≤ length xs → take j (take k xs ++ ys) ≡ take j xs
 take_fewer j k xs ys low fits =
     let here : j ≤ length (take k xs) = omega (arith, length-take-le k xs fits) in
     take-append-le j (take k xs) ys here ∙ sym (take-append-le j (take k xs) (drop k xs) here) ∙ ap (λ (zs : List PlainStep). take j zs) (take-append-drop k xs)
 
--- Once the parts that are as deep as a line are left, the path has the steps around the line, and its own.
+-- If the steps around the line are kept, and the path is these and the line's own step, the place is on the line.
 pub reached : (old new : Place) (seen : List Line) (line : Line) → Follows old seen
     → ((d : ℕ) → d ≤ line.depth → steps_in new.parts.items d ≡ steps_in old.parts.items d)
     → plain_path new.path ≡ take (steps_in old.parts.items line.depth) (plain_path old.path) ++ label_steps line.label → IsOn new seen line
@@ -76,7 +77,7 @@ reached old new seen line before same path =
 
 -- ---- the next line
 
--- Once the part of a line is open, the paths around later lines are those after this line.
+-- If the part of a line is opened and its step added to the path, the place follows the lines up to this one.
 pub entered : (old new : Place) (seen : List Line) (line : Line) (o : Open) → IsOn old seen line → new.parts.items ≡ old.parts.items ++ o ∷ []
     → o.depth ≡ line.depth → plain_path new.path ≡ plain_path old.path ++ kind_steps line.kind → o.steps ≡ length (plain_path new.path) → Follows new (line ∷ seen)
 entered old new seen line o on added deep path steps limit = record {

@@ -1,4 +1,4 @@
--- The last line of an explanation alone has bytes after the value.
+-- In an explanation, only the last line may have the bytes after the value. So the lines before it are those of the value.
 use Rattle.std.proofs.Common.{◌≡◌, ◌≢◌, inl, inr, ℕ, List, [], ◌∷◌, ◌++◌, length, string_bytes, refl, sym, ap, subst, ◌∙◌, arith, length-append}
 use Rattle.std.proofs.lemmas.List.{append-nil}
 use Rattle.postcard_schema.specs.Meaning.{type_of}
@@ -19,7 +19,7 @@ abbrev AreParts : List Line → Type 0
 AreParts [] = Unit {0}
 AreParts (line ∷ lines) = (line.kind ≢ AfterValue) × AreParts lines
 
--- Lines of parts, and more lines of parts after them, are lines of parts.
+-- Two lists of lines of parts, joined, are lines of parts.
 parts_join : (xs ys : List Line) → AreParts xs → AreParts ys → AreParts (xs ++ ys)
 parts_join [] ys h k = k
 parts_join (x ∷ xs) ys h k = (h.0, parts_join xs ys h.1 k)
@@ -29,7 +29,7 @@ last_part : (xs : List Line) (x : Line) → AreParts (xs ++ x ∷ []) → x.kind
 last_part [] x h = h.0
 last_part (y ∷ xs) x h = last_part xs x h.1
 
--- The one line that opens a value with parts is a line of a part.
+-- A list of one line of the kind `Parts` is a list of lines of parts.
 opening : (line : Line) (lines : List Line) → line.kind ≡ Parts → lines ≡ line ∷ [] → AreParts lines
 opening line lines kind is = rw is (λ e. cc (kind, e), tt)
 
@@ -85,11 +85,11 @@ same_front (a ∷ xs) (b ∷ ys) x y e =
     let k = same_front xs ys x y others in
     (cc (front, k.0), k.1)
 
--- The bytes of one line.
+-- The bytes of a list of one line are those of the line.
 bytes_of_one : (line : Line) (lines : List Line) → lines ≡ line ∷ [] → bytes_of lines ≡ line.bytes.now
 bytes_of_one line lines is = ap bytes_of is ∙ append-nil line.bytes.now
 
--- The lines of the value are those before the last, if this one has bytes after it.
+-- If lines of parts come first, and then nothing or the line after the value, the split is there.
 parted : (front rest lines value : List Line) (after : List ℕ) → AreParts front → IsLast rest → lines ≡ front ++ rest → IsSplit lines value after
     → (value ≡ front) × (after ≡ bytes_of rest)
 parted front rest lines value after plain (inl none) are (inl (line, kind, is, own)) =

@@ -12,7 +12,7 @@ use Rattle.pcard_explain.specs.declared.layout.Layout.{Layout}
 
 -- ---- layouts
 
--- The number of bytes of the offsets up to n.
+-- The number of bytes in which offsets up to n are printed: 1, 2, 4 or 8. The bounds are 2^8, 2^16 and 2^32.
 abbrev pub offset_size : ℕ → ℕ
 offset_size n = if nat_lt n 256 then 1 else if nat_lt n 65536 then 2 else if nat_lt n 4294967296 then 4 else 8
 
@@ -43,8 +43,8 @@ bytes_text layout bytes = if layout.all then spaced bytes else if nat_le (length
 abbrev pub offset_text : Layout → ℕ → List ℕ
 offset_text layout at = encode_lower (drop (8 - layout.offset) (to_be_bytes w64 (offset at)))
 
--- The number of blanks between n bytes and the text of a row. It is three for each byte that the longest row has more, one, and two for
--- each level of depth. Of the longest row's columns at most nine count, and of the levels at most twelve.
+-- The number of blanks between n bytes and the text of a row: three for each byte fewer than in the longest row, one, and two for each
+-- level of depth. Bytes count up to nine (eight and `.. `), and levels up to twelve.
 abbrev pub blanks_of : Layout → ℕ → ℕ → ℕ
 blanks_of layout depth n = 3 * min layout.longest 9 - 3 * min n 9 + 1 + 2 * min depth 12
 
@@ -58,8 +58,8 @@ abbrev pub IsCut : Layout → List ℕ → List ℕ → Type 0
 IsCut layout text shown =
     (shown ≡ text) ⊎ ((layout.all ≡ false) × ((front : List ℕ) × (back : List ℕ) × (text ≡ front ++ back) × (shown ≡ front ++ codes "..")))
 
--- The row of bytes at this offset and depth, with this text as their description. It may be cut. If rows may be cut, it has at most 80
--- bytes and its line feed.
+-- The row of bytes at this offset and depth, with this text. If rows may be cut, the text may be, and the row has at most 81 bytes: 80
+-- and its line feed.
 abbrev pub IsRow : Layout → ℕ → ℕ → List ℕ → List ℕ → List ℕ → Type 0
 IsRow layout at depth bytes text row =
     (shown : List ℕ) × IsCut layout text shown × (row ≡ head_text layout at depth bytes ++ (shown ++ 10 ∷ []))

@@ -97,6 +97,7 @@ pub record Trailer : Type 0 where
   pub name : List ℕ
   pub size : ℕ
 
+-- The trailer that a value of the program stands for.
 abbrev pub plain_trailer : TrailerHere → Trailer
 plain_trailer t = record { name = t.name.now; size = t.size }
 

@@ -47,6 +47,7 @@ abbrev pub last_steps : ℕ → List Open → ℕ → ℕ
 last_steps found [] depth = found
 last_steps found (part ∷ parts) depth = last_steps (if nat_lt part.depth depth then part.steps else found) parts depth
 
+-- The number of steps around a line of this depth in these parts, or 0 if none is less deep.
 abbrev pub steps_in : List Open → ℕ → ℕ
 steps_in parts depth = last_steps 0 parts depth
 

@@ -1,4 +1,4 @@
--- Where the operands of a call begin.
+-- Where the operands of a call begin, and so at which index its word TYPE is. Words are one call only, so TYPE is at one index.
 use Rattle.std.proofs.Common.{◌≡◌, ℕ, ◌+◌, ◌<◌, ◌≤◌, true, false, Some, List, [], ◌∷◌, length, map, sym, ap, subst, ◌∙◌, arith, true≢false}
 use Rattle.std.specs.Prelude.{slice_get, ◌==◌}
 use Rattle.std.proofs.Math.Dec.{eqb-suc-zero}
@@ -10,7 +10,7 @@ use Rattle.pcard_files.specs.Call.{NamesType}
 use Rattle.pcard_files.specs.Operands.{takes_type, IsTypeAt, IsOnlyCall}
 use Rattle.pcard_files.specs.TypeName.{IsNameWord}
 
--- After options there are no more words than with them.
+-- The words after the options are no more than the words with them.
 after_options : (v : Verb) (g h : Given) (ws r : Words) → OptionsThen v g ws h r → length r ≤ length ws
 after_options v g h [] r (at_end _) = omega arith
 after_options v g h (w ∷ ws) r (at_operand _ _ _ plain) = omega arith
@@ -24,18 +24,18 @@ operands_within words operands verb given call =
     let all = ap length call.begins in
     omega (arith, n, all)
 
--- TYPE is at no other index.
+-- If a call's operands begin at index i, TYPE is at no other index.
 pub one_type : (words operands : Words) (verb : Verb) (given : Given) (i j : ℕ) → IsOnlyCall words verb given operands → i + length operands ≡ length words → IsTypeAt words j → j ≡ i
 one_type words operands verb given i j only begin found =
     let same = ap length (only _ _ _ found.call).2 in
     let other = found.begin in
     omega (arith, same, begin, other)
 
--- A call of a verb that takes no type has none.
+-- A call of a verb that takes no type has no word TYPE.
 pub takes_none : (words operands : Words) (verb : Verb) (given : Given) → IsOnlyCall words verb given operands → takes_type verb ≡ false → (i : ℕ) → IsTypeAt words i → ⊥
 takes_none words operands verb given only none i found = true≢false (sym found.takes ∙ ap takes_type (sym (only _ _ _ found.call).0) ∙ none)
 
--- A call without operands has none.
+-- A call without operands has no word TYPE.
 pub without_operands : {A : Type 0} (f : A → List ℕ) (xs : List A) (words : Words) (verb : Verb) (given : Given) → IsOnlyCall words verb given (map f xs)
     → (length xs == 0) ≡ true → (i : ℕ) → IsTypeAt words i → ⊥
 without_operands f [] words verb given only none i found =
@@ -45,7 +45,7 @@ without_operands f [] words verb given only none i found =
     omega (arith, same, begin, within)
 without_operands f (x ∷ xs) words verb given only none i found = absurd (true≢false (sym none ∙ eqb-suc-zero (length xs)))
 
--- If the word TYPE is no name of a type in a file, no word is.
+-- If the word TYPE isn't `@FILE:NAME`, no word of the call names a type in a file.
 pub no_name : (words : Words) (index : ℕ) (w : List ℕ) → ((j : ℕ) → IsTypeAt words j → j ≡ index) → slice_get words index ≡ Some w
     → ((file name : List ℕ) → IsNameWord w file name → ⊥) → (i : ℕ) (file name : List ℕ) → NamesType words i file name → ⊥
 no_name words index w one is none i file name (type_at, (word, at, named)) =

@@ -6,7 +6,7 @@ use Rattle.pcard_files.specs.Fault.{Tells}
 use Rattle.pcard_files.specs.declared.fault.TypeFault.{TypeFault}
 use Rattle.pcard_files.specs.declared.fault.TypeFault.TheVariants.{Unreadable, TooLong, NoText, Wrong, OutOfMemory}
 
--- The bytes of the word at an index.
+-- If w is the word at index i, the bytes at index i of the mapped list are those of w.
 pub word_at : {A : Type 0} (f : A → List ℕ) (ws : List A) (i : ℕ) (w : A) → i < length ws → w ≡ get_or ws i w → slice_get (map f ws) i ≡ Some (f w)
 word_at f ws i w less is = slice_get-map f ws i ∙ ap (option_map f) (slice_get_read ws (length ws) i w refl less is)
 

@@ -2,7 +2,7 @@
 use Rattle.std.specs.Prelude.{◌≡◌, ◌⊎◌, ℕ, ◌==◌, List, [], ◌∷◌, ◌++◌, codes}
 use Rattle.std.specs.Str.{NoCharPasses}
 
--- No folder, or some, each with a `/` after it.
+-- The text is empty, or ends with `/` (47).
 abbrev pub AreFolders : List ℕ → Type 0
 AreFolders front = (front ≡ []) ⊎ ((names : List ℕ) × (front ≡ names ++ 47 ∷ []))
 

@@ -17,7 +17,7 @@ IsOutside first second file before after =
     ((inside : List ℕ) × (rest : List ℕ) × IsAround first file before rest × IsAround second rest inside after)
     ⊎ (Lacks first file × Lacks second file × (before ≡ file) × (after ≡ []))
 
--- Behind the first mark of the file no second one stands.
+-- The first mark is in the file, and no second mark is after it.
 abbrev pub IsOpen : List ℕ → List ℕ → List ℕ → Type 0
 IsOpen first second file = (before : List ℕ) × (rest : List ℕ) × IsAround first file before rest × Lacks second rest
 

@@ -1,4 +1,5 @@
--- Lemmas on what `enc` prints, and on the room that a frame has.
+-- What `enc` prints, and that its buffer has room for each frame. An encoding has at most 4,096 bytes, and a checksum 16, so a frame
+-- is of at most 4,112 bytes. It has at most 18 more: a code byte for each 254 bytes, and the zero.
 use Rattle.std.proofs.Common.{◌≡◌, sym, subst, ap, ◌∙◌, arith, ℕ, ◌≤◌, List, [], ◌++◌, length, append-nil, Bool, true, false, Option}
 use Rattle.std.specs.Io.KnownBytes.{Appends}
 use Rattle.postcard_wire.specs.Spelling.{canonical}
@@ -12,11 +13,11 @@ use Rattle.postcard_ser_flavors.specs.Held.{HasFreeUpTo}
 use Rattle.pcard_message.specs.Encoding.{IsBody, IsValueOf, IsWrapped, PrintsEncoded, written}
 use Rattle.pcard_message.specs.declared.format.Format.{Format}
 
--- The frame of at most 4,112 bytes has at most 4,130.
+-- The frame of at most 4,112 bytes has at most 4,130 bytes, its zero included.
 frame_fits : (xs : List ℕ) → length xs ≤ 4112 → length (made xs) ≤ 4130
 frame_fits xs short = let n = made_length xs in omega arith
 
--- A vector of 4,130 bytes has room for that frame, once the place of its first code byte is taken.
+-- A vector of 4,130 bytes that holds only the place of the first code byte has room for the frame of at most 4,112 bytes.
 pub frame_room : (t : List ℕ) (start : ℕ) (at : Standing) (failed : Bool) (xs : List ℕ) → length xs ≤ 4112 → HoldsOpen (λ (s : List ℕ). s) t start at failed [] []
     → HasFrameRoom (λ (s : List ℕ). s) (HasFreeUpTo (λ (s : List ℕ). s) 4130) t start at failed xs
 frame_room t start at failed xs short holds =
@@ -26,7 +27,7 @@ frame_room t start at failed xs short holds =
     let opened = open_made holds.frame [] at holds.stands in
     record { before = []; d = []; holds = holds; enough = omega arith; few = omega arith }
 
--- Room for some bytes is room for them and no more.
+-- If there is room for a frame of some bytes, there is room for it of these bytes and no others.
 abbrev pub with_none : {s : List ℕ} {start : ℕ} {at : Standing} {failed : Bool} (xs : List ℕ)
     → HasFrameRoom (λ (s : List ℕ). s) (HasFreeUpTo (λ (s : List ℕ). s) 4130) s start at failed xs
     → HasFrameRoom (λ (s : List ℕ). s) (HasFreeUpTo (λ (s : List ℕ). s) 4130) s start at failed (xs ++ [])

@@ -24,7 +24,7 @@ use Rattle.pcard_message.specs.declared.failure.Failure.{Failure}
 use Rattle.pcard_message.specs.declared.failure.Failure.TheVariants.{BadText, BadJson, Library, Output}
 use Rattle.pcard_message.specs.declared.format.Format.{Format}
 
--- The text denotes the value, as JSON or not.
+-- The text denotes the value: as text or as JSON, by the notation.
 abbrev pub SpellsIn : Notation → Schema → Value → List ℕ → Type 0
 SpellsIn Text schema v text = SpellsValue schema v text
 SpellsIn Json schema v text = IsJsonText (layout_of schema) (tree v) text
@@ -37,7 +37,7 @@ IsValueOf format text v = SpellsIn format.notation format.schema v text × reads
 abbrev pub HasNoValue : Format → List ℕ → Type 0
 HasNoValue format text = (v : Value) → IsValueOf format text v → ⊥
 
--- The failures of reading a value: the text denotes none, and stops being one at this place.
+-- When each failure of reading a value comes. `BadText` and `BadJson` name the place where a text that denotes no value stops being one.
 abbrev pub ValueFails : Format → List ℕ → Failure → Type 0
 ValueFails format text (BadText character expected) =
     (format.notation ≡ Text) × HasNoValue format text × IsPlaceIn text (NotAValue character expected)
@@ -53,7 +53,7 @@ abbrev pub IsBody : Option Checksum → List ℕ → List ℕ → Type 0
 IsBody None message body = body ≡ message
 IsBody (Some c) message body = (crc : ℕ) × IsChecksum c message crc × (body ≡ message ++ trailer_of c crc)
 
--- The bytes in a frame, its zero included, or alone.
+-- If the format is framed, `out` is the frame of the body, its zero included. Otherwise it is the body.
 abbrev pub IsWrapped : Bool → List ℕ → List ℕ → Type 0
 IsWrapped true body out = IsMade body out
 IsWrapped false body out = out ≡ body
@@ -64,7 +64,7 @@ pub record IsPacked (format : Format) (v : Value) (out : List ℕ) : Type 0 wher
   pub is_body : IsBody format.checksum (canonical (tree v)) body
   pub wrapped : IsWrapped format.framed body out
 
--- The bytes as they are printed: raw, or in hexadecimal on a line.
+-- The bytes as they are printed: raw, or as hexadecimal digits and a new line, which is the byte 10.
 abbrev pub written : Bool → List ℕ → List ℕ
 written true bytes = bytes
 written false bytes = encode_lower bytes ++ 10 ∷ []
@@ -81,7 +81,7 @@ pub record PrintsEncoded (format : Format) (raw : Bool) (text : List ℕ) (old n
 abbrev pub HasLongEncoding : Format → List ℕ → Type 0
 HasLongEncoding format text = (v : Value) × IsValueOf format text v × (4096 < length (canonical (tree v)))
 
--- The failures of `enc`.
+-- When each failure of `enc` comes.
 abbrev pub EncodeFails : Format → List ℕ → Failure → Type 0
 EncodeFails format text (Library e) = (e ≡ errors.OutOfMemory) ⊎ ((e ≡ errors.SerializeBufferFull) × HasLongEncoding format text)
 EncodeFails format text Output = ⊤

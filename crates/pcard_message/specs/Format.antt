@@ -1,4 +1,4 @@
--- The format of the options and the type of a call, and why there is none.
+-- The format that the options and the type of a call name, and the failures of reading it.
 use Rattle.std.specs.Prelude.{◌≡◌, ◌≢◌, ℕ, ◌+◌, ◌≤◌, Bool, true, false, List, Option, None, Some}
 use Rattle.postcard_wire.specs.declared.error.Error.TheVariants as errors
 use Rattle.postcard_schema.specs.declared.schema.Schema.{Schema}
@@ -36,25 +36,25 @@ pub record IsFormat (given : Given) (kind : List ℕ) (format : Format) : Type 0
 abbrev pub IsUnnamed : List ℕ → Type 0
 IsUnnamed name = (c : Checksum) → name ≢ checksum_name c
 
--- The failure for a checksum that no algorithm has as its name.
+-- The failure says that no checksum has the name.
 abbrev pub IsNameFailure : List ℕ → Failure → Type 0
 IsNameFailure name (UnknownChecksum word) = (word.now ≡ name) × IsUnnamed name
 IsNameFailure name failure = ⊥
 
--- The expression is refused, and this is wrong with it. The place is that of a character, counted from 1, or the next after the last.
+-- The text is no type expression, and the error isn't memory. Its place is a character, counted from 1, or the one after the last.
 pub record IsTypeRefused (expression : List ℕ) (error : ExpressionError) : Type 0 where
   pub not_memory : error.problem ≢ problems.OutOfMemory
   pub no_type : (schema : Schema) → IsExpression schema expression → ⊥
   pub least : 1 ≤ error.character
   pub most : error.character ≤ characters expression + 1
 
--- The failures of reading a type expression.
+-- When each failure of reading a type expression comes.
 abbrev pub TypeFails : List ℕ → Failure → Type 0
 TypeFails expression (BadType error) = IsTypeRefused expression error
 TypeFails expression (Library e) = e ≡ errors.OutOfMemory
 TypeFails expression failure = ⊥
 
--- The failures of reading the options and the type of a call. The type is read only if the checksum's name is known.
+-- When each failure of reading the options and the type of a call comes. The type is read only if the checksum's name is known.
 abbrev pub FormatFails : Given → List ℕ → Failure → Type 0
 FormatFails given kind (UnknownChecksum word) = (given.checksum ≡ Some word.now) × IsUnnamed word.now
 FormatFails given kind failure = ((checksum : Option Checksum) × IsNamed given.checksum checksum) × TypeFails kind failure

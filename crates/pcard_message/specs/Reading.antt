@@ -28,12 +28,12 @@ use Rattle.pcard_message.specs.declared.format.Format.{Format}
 abbrev pub ReadsValue : Schema → List ℕ → Value → List ℕ → Type 0
 ReadsValue schema bytes v rest = ReadsFront (reads (type_of schema)) IsTree bytes v rest
 
--- What follows a message: the bytes of its checksum, if there is one, and then `rest`.
+-- The bytes `behind`, which follow a message, are its checksum, if there is one, and then `rest`.
 abbrev pub IsBehind : Option Checksum → List ℕ → List ℕ → List ℕ → Type 0
 IsBehind None message behind rest = rest ≡ behind
 IsBehind (Some c) message behind rest = IsTrailer c message behind rest
 
--- The format has a checksum, and its bytes don't follow the message.
+-- There is a checksum, and `behind`, which follows the message, doesn't begin with it.
 abbrev pub LacksChecksum : Option Checksum → List ℕ → List ℕ → Type 0
 LacksChecksum None message behind = ⊥
 LacksChecksum (Some c) message behind = (e : Error) × HasNoTrailer c message behind e
@@ -43,7 +43,7 @@ abbrev pub ReadsData : Format → List ℕ → Value → List ℕ → Type 0
 ReadsData format bytes v rest =
     (behind : List ℕ) × (is : ReadsValue format.schema bytes v behind) × IsBehind format.checksum is.front behind rest
 
--- No prefix of the bytes encodes a value: the part at which reading stops, where it begins, and the error of reading it.
+-- No prefix of the bytes encodes a value. `w` names the part at which reading stops, where it begins, and the error of reading it.
 pub record IsUnread (schema : Schema) (bytes : List ℕ) (w : Why) : Type 0 where
   pub no_value : (v : Value) (rest : List ℕ) → ReadsValue schema bytes v rest → ⊥
   pub error : Error
@@ -89,11 +89,11 @@ IsContentAnswer format content (refused w) = (inner : Why) × IsBadData format c
 abbrev pub whole : Reason → List ℕ → Why
 whole reason bytes = record { offset = 0; reason = reason; path = []; shown = Some bytes }
 
--- The refusal of bytes that are no COBS frame, and that of bytes that no zero ends.
+-- The refusal of bytes that are no COBS frame.
 abbrev pub no_cobs : List ℕ → Why
 no_cobs frame = whole NoCobs frame
 
--- Why bytes without a zero are refused: no zero ends the frame.
+-- The refusal of bytes without a zero: no zero ends the frame.
 abbrev pub no_zero : List ℕ → Why
 no_zero bytes = whole NoZeroEnds bytes
 

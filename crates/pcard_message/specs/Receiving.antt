@@ -1,4 +1,4 @@
--- The state of a stream between two pieces, how a piece changes it, and how reading a stream fails.
+-- The state of a stream between two pieces, how a piece changes it, and when each failure of reading a stream comes.
 use Rattle.std.specs.Prelude.{◌≡◌, ◌^◌, ◌-◌, ℕ, ◌<◌, ◌≤◌, ⊤, Bool, true, false, List, ◌++◌, length, Option}
 use Rattle.std.specs.Io.KnownBytes.{Consumes, IsAtEnd, Keeps}
 use Rattle.postcard_wire.specs.declared.error.Error.{Error}
@@ -35,7 +35,7 @@ Continues format before piece after old new =
 abbrev pub PrintsAnswerTo : Format → ℕ → ℕ → List ℕ → Option (List ℕ) → Option (List ℕ) → Type 0
 PrintsAnswerTo format longest at frame old new = (answer : Answer) × IsAnswerTo format longest frame answer × PrintsLine format at answer old new
 
--- The two states differ only in the room for data.
+-- The two states have the same fields, without the room for data, which may differ.
 pub record IsSame (before after : Stream) : Type 0 where
   pub longest : after.longest ≡ before.longest
   pub held : after.held.items ≡ before.held.items
@@ -62,19 +62,19 @@ line_failure prints.Output = Output
 line_failure prints.OutOfMemory = OutOfMemory
 line_failure prints.NoJson = Library WontImplement
 
--- The failures of printing the lines of frames.
+-- When each failure of printing the lines of frames comes.
 abbrev pub LinesFail : Format → Failure → Type 0
 LinesFail format (Library e) = LacksLine format.notation e
 LinesFail format OutOfMemory = ⊤
 LinesFail format Output = ⊤
 LinesFail format failure = ⊥
 
--- The failures of a read and of printing its lines. A read that failed took nothing, and printed nothing.
+-- When each failure of a read and of printing its lines comes. A read that failed took nothing, and printed nothing.
 abbrev pub ReadFails : Format → Type 0 → Option (List ℕ) → Option (List ℕ) → Option (List ℕ) → Option (List ℕ) → Failure → Type 0
 ReadFails format steady known left old new ReadFailed = (steady → ⊥) × Keeps known left × (new ≡ old)
 ReadFails format steady known left old new failure = LinesFail format failure
 
--- The failures of printing the lines of a stream. The lines of all that was read were printed before a read failed.
+-- When each failure of `frames` comes. At `ReadFailed` and at `Limit`, which needs 2^64 - 1 bytes, the lines of what was read are printed.
 abbrev pub StreamFails : Type 0 → Format → ℕ → Option (List ℕ) → Option (List ℕ) → Option (List ℕ) → Option (List ℕ) → Failure → Type 0
 StreamFails steady format longest known left old new Limit = (given : List ℕ) × (2 ^ 64 - 1 ≤ length given) × PrintsSoFar format longest given known left old new
 StreamFails steady format longest known left old new ReadFailed = (steady → ⊥) × ((given : List ℕ) × PrintsSoFar format longest given known left old new)

@@ -12,7 +12,7 @@ use Rattle.pcard_message.specs.declared.format.Format.{Format}
 abbrev pub overfull : Why
 overfull = record { offset = 0; reason = Overfull; path = []; shown = None }
 
--- The answer is right for the frame. A frame and its zero have at most `longest` bytes, or the answer is that it is too long.
+-- The answer is right for the frame. If the frame and its zero have more than `longest` bytes, it is that the frame is too long.
 abbrev pub IsAnswerTo : Format → ℕ → List ℕ → Answer → Type 0
 IsAnswerTo format longest frame answer =
     ((length frame + 1 ≤ longest) × IsFrameAnswer format frame answer) ⊎ ((longest < length frame + 1) × (answer ≡ refused overfull))
@@ -43,8 +43,8 @@ PrintsLinesOf format before (a ∷ more) old new =
     (mid : Option (List ℕ)) × PrintsLine format (offset before) a.answer old mid
     × PrintsLinesOf format (before + length a.frame + 1) more mid new
 
--- The bytes after the last zero, which come after `before` bytes, have their line printed. It is one line if they are too long already, and
--- else none.
+-- What is printed of the bytes after the last zero, before which are `before` bytes: if they are more than `longest`, the line of a frame
+-- that is too long, and else nothing.
 pub record PrintsRest (format : Format) (longest before : ℕ) (rest : List ℕ) (old new : Option (List ℕ)) : Type 0 where
   pub over : longest < length rest → PrintsLine format (offset before) (refused overfull) old new
   pub fits : length rest ≤ longest → Appends old new []

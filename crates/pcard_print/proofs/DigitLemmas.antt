@@ -1,4 +1,4 @@
--- Lemmas on hexadecimal digits byte by byte, and on what a writer holds after several writes.
+-- Bytes are printed as hexadecimal digits piece by piece: the digits of two pieces are those of the joined bytes.
 use Rattle.std.proofs.Common.{◌≡◌, ℕ, List, [], ◌∷◌, ◌++◌, Option, take, drop, refl, sym, ap, ◌∙◌}
 use Rattle.std.proofs.lemmas.List.{append_assoc, take-append-drop}
 use Rattle.std.specs.Io.KnownBytes.{Appends}
@@ -22,7 +22,7 @@ pub appends-piece : (a b c : Option (List ℕ)) (xs ys : List ℕ) → Appends a
 appends-piece a b c xs ys first second =
     rw (encode_with-append lower_digits xs ys) (Appends-trans a b c (encode_lower xs) (encode_lower ys) first second)
 
--- Let a list be cut into a prefix and the remaining part. Cutting the remaining part further gives a cut of the whole list.
+-- If a list is `done` and `rest`, and `rest` is cut after n elements, the list is `done` and the two parts.
 pub cut_again : (xs done rest front back : List ℕ) (n : ℕ) → xs ≡ done ++ rest → front ≡ take n rest → back ≡ drop n rest
     → xs ≡ done ++ front ++ back
 cut_again xs done rest front back n whole first second =

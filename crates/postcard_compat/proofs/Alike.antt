@@ -1,4 +1,4 @@
--- Types with the same messages, by their kind.
+-- Types with the same messages: the relation is reflexive, symmetric and transitive, and types made of such types have the same messages.
 use Rattle.std.proofs.Common.{◌≡◌, ℕ, List, [], ◌∷◌, ◌∙◌, subst}
 use Rattle.std.specs.List.{AllZip}
 use Rattle.postcard_wire.specs.Tree.{Trees}
@@ -15,13 +15,14 @@ same x = record { serves = itself (reads x) (said x); is_served = itself (reads 
 pub same_back : (x y : MessageType) → SameMessages x y → SameMessages y x
 same_back x y h = record { serves = h.is_served; is_served = h.serves }
 
--- Having the same messages is transitive, and so is the same of rows.
+-- If `x` has the messages of `y`, and `y` those of `z`, then `x` has those of `z`.
 pub same_after : (x y z : MessageType) → SameMessages x y → SameMessages y z → SameMessages x z
 same_after x y z h k = record {
   serves = through (reads x) (said x) (reads y) (said y) (reads z) (said z) h.serves k.serves;
   is_served = through (reads z) (said z) (reads y) (said y) (reads x) (said x) k.is_served h.is_served;
 }
 
+-- If a row serves a second, and the second a third, the first serves the third.
 rows_through : (P : Trees → Type 0) (f : Trees → List Word) (Q : Trees → Type 0) (g : Trees → List Word) (R : Trees → Type 0) (h : Trees → List Word)
     → RowServes P f Q g → RowServes Q g R h → RowServes P f R h
 rows_through P f Q g R h one two ts r =
@@ -29,11 +30,11 @@ rows_through P f Q g R h one two ts r =
     let (vs, p, again, more) = one us q in
     (vs, p, again ∙ same, λ l k. more l (spelled l k))
 
--- The same of rows of parts.
+-- If the row `xs` has the messages of `ys`, then `ys` has those of `xs`.
 pub rows_back : (xs ys : List MessageType) → SameRows xs ys → SameRows ys xs
 rows_back xs ys h = record { serve = h.are_served; are_served = h.serve }
 
--- If `xs` is the same as `ys`, and `ys` as `zs`, then `xs` is the same as `zs`.
+-- If the row `xs` has the messages of `ys`, and `ys` those of `zs`, then `xs` has those of `zs`.
 pub rows_after : (xs ys zs : List MessageType) → SameRows xs ys → SameRows ys zs → SameRows xs zs
 rows_after xs ys zs h k =
     let P = reads_all (row_of xs) in
@@ -76,12 +77,14 @@ group_same xs ys h =
     let g = said_all (row_of ys) in
     record { serves = group_serves P f Q g h.serve; is_served = group_serves Q g P f h.are_served }
 
+-- If the types of two lists have the same messages one by one, so have those of the lists exchanged.
 each_back : (xs ys : List MessageType) → AllZip SameMessages xs ys → AllZip SameMessages ys xs
 each_back [] [] h = h
 each_back [] (y ∷ ys) h = absurd h
 each_back (x ∷ xs) [] h = absurd h
 each_back (x ∷ xs) (y ∷ ys) h = (same_back x y h.0, each_back xs ys h.1)
 
+-- If the types of two lists have the same messages one by one, the variants of the one serve those of the other.
 each_serves : (xs ys : List MessageType) → AllZip SameMessages xs ys → VariantsServe (row_of xs) (row_of ys)
 each_serves [] [] h = none_serve (row_of [])
 each_serves [] (y ∷ ys) h = absurd h
@@ -101,6 +104,6 @@ choice_same xs ys h =
 pub same_by : (x y : MessageType) → x ≡ y → SameMessages x y
 same_by x y e = subst (λ z. SameMessages x z) e (same x)
 
--- Two rows without parts are the same.
+-- Two rows without parts have the same messages.
 pub no_rows_same : SameRows [] []
 no_rows_same = record { serve = end_serves; are_served = end_serves }

@@ -17,11 +17,11 @@ use Rattle.postcard_compat.proofs.Served.{through, option_serves, seq_serves, ar
 by : (n o x y : MessageType) → n ≡ x → o ≡ y → Serves x y → Serves n o
 by n o x y en eo h = subst (λ z. Serves n z) (sym eo) (subst (λ z. Serves z y) (sym en) h)
 
--- A type without parts, if the names of both fit.
+-- If the schemas are leaves, and the new leaf serves the old one, the new schema serves the old one.
 pub of_leaf : (s n : Schema) (o w : Leaf) → s ≡ schemas.Leaf o → n ≡ schemas.Leaf w → Serves (leaf w) (leaf o) → Serves (type_of n) (type_of s)
 of_leaf s n o w is new_is h = by (type_of n) (type_of s) (leaf w) (leaf o) (ap type_of new_is ∙ type_of_leaf w) (ap type_of is ∙ type_of_leaf o) h
 
--- What is held in boxes serves, if it does outside of them.
+-- If a schema serves another, it does so where each is the content of a box.
 held : (d e : Schema) (a b : Box Schema Global) → d ≡ a.value → e ≡ b.value → Serves (type_of e) (type_of d) → Serves (type_of b.value) (type_of a.value)
 held d e a b is new_is = by (type_of b.value) (type_of a.value) (type_of e) (type_of d) (ap type_of (sym new_is)) (ap type_of (sym is))
 
@@ -51,7 +51,7 @@ entries_serve k v x y hk hv =
     group_serves (reads_all ns) (said_all ns) (reads_all os) (said_all os)
     (then_serves k x (then_type v no_types) (then_type y no_types) hk (then_serves v y no_types no_types hv end_serves))
 
--- A map.
+-- A map serves a map if its keys serve the other's keys, and its values the other's values.
 pub of_map : (s n : Schema) (a x b y : Box Schema Global) (da dx db dy : Schema) → da ≡ a.value → dx ≡ x.value → db ≡ b.value → dy ≡ y.value
     → Serves (type_of db) (type_of da) → Serves (type_of dy) (type_of dx) → s ≡ schemas.Map a x → n ≡ schemas.Map b y → Serves (type_of n) (type_of s)
 of_map s n a x b y da dx db dy ea ex eb ey key value is new_is =
@@ -76,17 +76,17 @@ of_group s n os ns is new many h =
     let parts : Serves row old = group_serves (reads_all (types_of ns)) (said_all (types_of ns)) (reads_all (types_of os)) (said_all (types_of os)) (all_serve ns os many h) in
     subst (λ z. Serves (type_of n) z) (sym is) (through (reads (type_of n)) (said (type_of n)) (reads row) (said row) (reads old) (said old) new.serves parts)
 
--- A tuple, by its row of parts.
+-- A schema whose messages are those of a row serves a tuple if the row has as many parts and each serves the part at its place.
 pub of_tuple : (s n : Schema) (v : Vec Schema Global) (ns : List Schema) → s ≡ schemas.Tuple v → SameMessages (type_of n) (group (types_of ns))
     → length v.items ≡ length ns → VariantsServe (types_of ns) (types_of v.items) → Serves (type_of n) (type_of s)
 of_tuple s n v ns is = of_group s n v.items ns (ap type_of is ∙ type_of_tuple v)
 
--- A struct, by its row of parts.
+-- A schema whose messages are those of a row serves a struct if the row has as many parts and each serves the field at its place.
 pub of_struct : (s n : Schema) (v : Vec (Named Schema) Global) (ns : List Schema) → s ≡ schemas.Struct v → SameMessages (type_of n) (group (types_of ns))
     → length (contents v.items) ≡ length ns → VariantsServe (types_of ns) (types_of (contents v.items)) → Serves (type_of n) (type_of s)
 of_struct s n v ns is = of_group s n (contents v.items) ns (ap type_of is ∙ type_of_struct v)
 
--- An enum, by its variants.
+-- An enum serves an enum if its variants serve those of the other.
 pub of_enum : (s n : Schema) (v w : Vec (Named Schema) Global) → s ≡ schemas.Enum v → n ≡ schemas.Enum w
     → VariantsServe (types_of (contents w.items)) (types_of (contents v.items)) → Serves (type_of n) (type_of s)
 of_enum s n v w is new_is h =
@@ -143,7 +143,7 @@ parts_next ns os k n o ln en lo eo h all rest =
     (subst (λ ys. VariantsServe (types_of (n ∷ drop (k + 1) ns)) (types_of ys)) (sym (cut os k o lo eo))
     (variant_serves (type_of n) (type_of o) (types_of (drop (k + 1) ns)) (types_of (drop (k + 1) os)) h rest)))
 
--- Past the last old variant nothing is left to compare.
+-- If index k is past the last old part, the parts from k on serve.
 pub parts_end : (ns os : List Schema) (k : ℕ) {Z : Type 0} → length os ≤ k → (VariantsServe (types_of (drop k ns)) (types_of (drop k os)) → Z) → Z
 parts_end ns os k high all =
     all (subst (λ ys. VariantsServe (types_of (drop k ns)) (types_of ys)) (sym (drop_of_length-le os high)) (none_serve (types_of (drop k ns))))

@@ -1,4 +1,4 @@
--- The laws of serving: it is reflexive and transitive, and what it says of the bytes of messages.
+-- The laws of serving: it is reflexive and transitive, and a new type that serves an old one reads its messages whole and unchanged.
 use Rattle.std.proofs.Common.{◌≡◌, ℕ, List, ◌++◌, sym, ap, ◌∙◌}
 use Rattle.postcard_wire.specs.Tree.{Tree}
 use Rattle.postcard_wire.specs.Spelling.{Spells, canonical}
@@ -13,7 +13,7 @@ use Rattle.postcard_compat.proofs.Served.{itself, through}
 pub reflexive : (a : MessageType) → Serves a a
 reflexive a = itself (reads a) (said a)
 
--- What serves a type serves what that type serves.
+-- If `c` serves `b`, and `b` serves `a`, then `c` serves `a`.
 pub transitive : (a b c : MessageType) → Serves c b → Serves b a → Serves c a
 transitive a b c = through (reads c) (said c) (reads b) (said b) (reads a) (said a)
 

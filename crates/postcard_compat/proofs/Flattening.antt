@@ -22,7 +22,7 @@ use Rattle.postcard_compat.proofs.Splices.{rows_join, rows_one, no_parts_same, p
 
 -- ---- Structs and enums
 
--- The types of fields in a row, by both definitions.
+-- The two definitions of the types of fields in a row give the same row.
 named_row : (ns : List (Named Schema)) → types_of (contents ns) ≡ row_of (part_types ns)
 named_row [] = refl
 named_row (n ∷ ns) = ap (λ z. then_type (type_of n.content) z) (named_row ns)
@@ -84,7 +84,7 @@ pub flat_struct : (s : Schema) (v : Vec (Named Schema) Global) (row : List Messa
     → SameRows row (type_of s ∷ [])
 flat_struct s v row h is = of_parts s row (part_types v.items) h (ap type_of is ∙ struct_row v)
 
--- The row of a short array is that of its element, as often as the array has elements.
+-- If a row has the messages of an array of the element's row, it has those of the array.
 pub flat_array : (s d : Schema) (a : Box Schema Global) (n : ℕ) (element row : List MessageType) → d ≡ a.value → SameRows element (type_of d ∷ [])
     → SameRows row (array n (group (row_of element)) ∷ []) → s ≡ schemas.Array a n → SameRows row (type_of s ∷ [])
 flat_array s d a n element row held h k is =

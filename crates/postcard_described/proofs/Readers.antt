@@ -1,4 +1,4 @@
--- If a set of trees is covered by another, its messages are messages of the other.
+-- The messages of a set of trees are messages of each set that covers it, since covering means the same encodings.
 use Rattle.std.proofs.Common.{ℕ, List}
 use Rattle.postcard_wire.specs.Tree.{Tree}
 use Rattle.postcard_described.specs.Within.{Covered}

@@ -110,11 +110,13 @@ pub units_next : (n : ℕ) → units (suc n) ≡ units n ++ group no_types ∷ [
 units_next zero = refl
 units_next (suc n) = ap (λ ts. group no_types ∷ ts) (units_next n)
 
+-- Each tree of a variant without content is one of the unit at its index.
 unit_there : (n i : ℕ) (t : Tree) → IsUnit n i t → reads_at (row_of (units n)) i t
 unit_there zero i t r = absurd (omega (arith, r.0))
 unit_there (suc n) zero t r = r.1
 unit_there (suc n) (suc i) t r = unit_there n i t (omega (arith, r.0), r.1)
 
+-- Each tree of the unit at an index is one of the variant without content.
 unit_back : (n i : ℕ) (t : Tree) → reads_at (row_of (units n)) i t → IsUnit n i t
 unit_back zero i t r = absurd r
 unit_back (suc n) zero t r = (omega arith, r)

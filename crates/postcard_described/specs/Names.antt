@@ -17,7 +17,7 @@ pub names_append : {A : Type 0} (ns ms : List (Named A)) → names_of (ns ++ ms)
 names_append [] ms = refl
 names_append (n ∷ ns) ms = ap (λ xs. string_bytes n.name ∷ xs) (names_append ns ms)
 
--- The text that is lent.
+-- The bytes of a `&str`.
 abbrev pub text_of : Bor (List ℕ) → List ℕ
 text_of b = b.now
 

@@ -13,7 +13,7 @@ use Rattle.postcard_schema_message.specs.declared.node.Node.TheVariants as nodes
 use Rattle.postcard_schema_message.specs.Nodes.{NodeView, leaf_node, option_node, seq_node, map_node, array_node, tuple_node, struct_node, enum_node, node_view, node_views, texts}
 use Rattle.postcard_schema_message.specs.Wire.{CountedRow, Names, NodeRow, row_of}
 
--- The images of lists are equal if those of elements that look alike are.
+-- If elements that look alike have equal images, lists that look alike have equal images.
 map_same : {V W : Type 0} (same : V → V → Type 0) (see : V → W) → ((v w : V) → same v w → see v ≡ see w)
     → (vs ws : List V) → SameList same vs ws → map see vs ≡ map see ws
 map_same same see each [] [] h = refl

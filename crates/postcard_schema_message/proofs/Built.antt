@@ -1,4 +1,4 @@
--- A row of schemas with one more at its end, and what a node builds of it.
+-- A stack of built schemas, with one more at its end, and what a node builds of the last ones. 384 is the greatest depth.
 use Rattle.std.proofs.Common.{◌≡◌, ℕ, ◌+◌, ◌<◌, ◌≤◌, ◌⊎◌, max, List, [], ◌∷◌, ◌++◌, length, map, Result, Ok, Err, refl, sym, ap, subst, ◌∙◌, append_assoc, arith, inl, inr}
 use Rattle.std.specs.Prelude.{IsErrAnd}
 use Rattle.std.proofs.lemmas.List.{length_push, map_push}
@@ -27,7 +27,7 @@ pub forest_length : (bs : List Built) → length (forest bs) ≡ length bs
 forest_length [] = refl
 forest_length (b ∷ bs) = let more = forest_length bs in omega (arith, more, length_push (forest bs) (view b.schema))
 
--- One schema more is built.
+-- If the schemas of a list are built, and one more is, all of them with that one are.
 pub built_push : (bs : List Built) (b : Built) → AreBuilt bs → IsBuilt b → AreBuilt (bs ++ b ∷ [])
 built_push [] b all one = (one, tt)
 built_push (a ∷ bs) b all one = (all.0, built_push bs b all.1 one)
@@ -77,16 +77,19 @@ pub unbuilt : (n : NodeView) (old new : List Built) (r : Result Built Problem) (
 unbuilt n old new (Ok b) e h k = absurd h
 unbuilt n old new (Err y) e h k = record { built = tt; same = tt; kept = tt; refused = subst (λ z. CannotBuild z n (forest old)) (sym h) k }
 
+-- If taking the parts of a node fails, for want of memory or of parts, the node can't be built for that reason.
 pub cannot_take : (problem : Problem) (n : NodeView) (vs : List View) (count : ℕ) → count ≡ arity n
     → (problem ≡ OutOfMemory) ⊎ ((problem ≡ Malformed) × (length vs < count)) → CannotBuild problem n vs
 cannot_take problem n vs count is (inl memory) = subst (λ p. CannotBuild p n vs) (sym memory) tt
 cannot_take problem n vs count is (inr (malformed, few)) = subst (λ p. CannotBuild p n vs) (sym malformed) (subst (λ m. length vs < m) is few)
 
+-- If the greatest depth of the parts and the node's own levels are more than 384, the nodes begin with a type that is too deep.
 pub too_deep : (n : NodeView) (vs us ws : List View) (d : ℕ) → length vs ≡ arity n → ws ≡ vs ++ us → d ≡ greatest vs → 384 < d + levels n → BeginsWith IsDeep n ws
 too_deep n vs us ws d long e deep high =
     let depth = made_depth n vs long in
     (make n vs, us, sym (built_row n vs us ws long e), omega (arith, depth, deep, high))
 
+-- If making a node's schema of its parts fails, the node can't be built for that reason.
 pub cannot_make : (problem : Problem) (n : NodeView) (vs us ws : List View) → length vs ≡ arity n → ws ≡ vs ++ us
     → (problem ≡ OutOfMemory) ⊎ ((problem ≡ ElementWithoutBytes) × HasEmptyElements (make n vs)) → CannotBuild problem n ws
 cannot_make problem n vs us ws long e (inl memory) = subst (λ p. CannotBuild p n ws) (sym memory) tt

@@ -22,7 +22,7 @@ use Rattle.postcard_schema_message.proofs.Views.{view_array, view_leaf, view_map
 abbrev pub IsUnmade : Problem → NodeView → List View → Type 0
 IsUnmade problem n vs = (problem ≡ OutOfMemory) ⊎ ((problem ≡ ElementWithoutBytes) × HasEmptyElements (make n vs))
 
--- The error that a `?` passes on.
+-- If the result is an error, and its problem is why no schema is made, `IsMade` holds of the result.
 pub unmade : (n : NodeView) (vs : List View) (r : Result Schema Problem) (e : Problem) → IsErrAnd r (λ y. y ≡ e) → IsUnmade e n vs → IsMade n vs r
 unmade n vs (Ok x) e h k = absurd h
 unmade n vs (Err y) e h k = record { made = tt; full = λ f. tt; refused = subst (λ z. IsUnmade z n vs) (sym h) k }

@@ -1,4 +1,5 @@
--- Lemmas for `endless_parts`: the paths in a type are those in its parts, one part after the other.
+-- `endless` lists the paths of the parts without a greatest size. By the kind of the type, it is the type's own path and those in its parts,
+-- part by part, as `endless_parts` adds them.
 use Rattle.std.proofs.Common.{◌≡◌, ℕ, ◌<◌, List, [], ◌∷◌, ◌++◌, map, Vec, Box, refl, ap, rules, append_assoc, append-nil}
 use Rattle.std.specs.Prelude.{nat_lt, Bool, true, false, if◌then◌else◌, string_bytes}
 use Rattle.std.specs.declared.alloc.Global.{Global}
@@ -14,7 +15,7 @@ use Rattle.postcard_schema.specs.declared.schema.Schema.TheShapes.{former-Schema
 use Rattle.postcard_schema.specs.declared.schema.Schema.TheVariants as schemas
 use Rattle.postcard_schema_size.specs.Endless.{Paths, after, endless, in_entries, in_named, in_parts, is_endless_leaf}
 
--- ---- Types by their kind
+-- ---- what `endless` is of each kind of type
 
 pub endless_leaf : (l : Leaf) → endless (schemas.Leaf l) ≡ (if is_endless_leaf l then [] ∷ [] else [])
 endless_leaf l = search (rules, the_lemmas)
@@ -46,7 +47,7 @@ endless_enum v = search (rules, the_lemmas, named_paths)
 
 -- ---- Steps
 
--- The paths after a step that comes after others.
+-- Putting a step and then the steps `here` before each path puts `here` and the step before it.
 pub after_step : (here : List PlainStep) (s : PlainStep) (paths : Paths) → after here (after (s ∷ []) paths) ≡ after (here ++ s ∷ []) paths
 after_step here s paths = simp (append_assoc, map-map)
 
@@ -71,20 +72,19 @@ pub after_entries : (here : List PlainStep) (keys values old now both all : Path
     → all ≡ both ++ after ((here ++ at_each ∷ []) ++ at_part 1 ∷ []) values → all ≡ old ++ after here ([] ∷ in_entries keys values)
 after_entries here keys values old now both all first second third = rw (third, second, first) (simp (append_assoc, append-nil, map-append, map-map))
 
--- The paths in the elements of an array that has some.
+-- If an array has elements, the paths in them are its paths.
 pub some_elements : (n : ℕ) (paths : Paths) → 0 < n → (if nat_lt 0 n then paths else []) ≡ paths
 some_elements n paths some = ap (λ b. if b then paths else []) (lt-ltb 0 n some)
 
 -- ---- Parts in a row
 
--- The paths added for a part are the same if its steps and its paths are equal.
+-- If the steps and the paths of a part are equal to others, the paths that were added are those of the others.
 pub moved : (here h : List PlainStep) (step s : PlainStep) (paths found now new : Paths) → h ≡ here → s ≡ step → found ≡ paths
     → new ≡ now ++ after (h ++ s ∷ []) found
     → new ≡ now ++ after (here ++ step ∷ []) paths
 moved here h step s paths found now new back same is added = rw (← back, ← same, ← is) added
 
--- One turn of a loop over parts: the new paths are those before and those of one part more. With the paths of the remaining parts, these
--- are all.
+-- One turn of a loop over parts adds the paths of one part: these, and those of the remaining parts, are still all paths.
 pub next : (here : List PlainStep) (step : PlainStep) (paths others left now new all : Paths) → new ≡ now ++ after (here ++ step ∷ []) paths
     → left ≡ after here (after (step ∷ []) paths ++ others)
     → now ++ left ≡ all → new ++ after here others ≡ all

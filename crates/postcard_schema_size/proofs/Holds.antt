@@ -40,11 +40,12 @@ holding : {X V : Type 0} {measure : X → ℕ} {l : SizeLimit} {has : X → Type
     → IsLimitOf measure l has (λ (v : Unit {0}). never)
 holding h = record { bounded = h.bounded; is_reached = h.is_reached; never_refuses = λ may. never_any }
 
--- The limit of an array holds if that of its elements does. An empty array has no bytes.
+-- An empty row of trees has no bytes.
 no_bytes : (ts : Trees) → count ts ≡ 0 → trees_len ts ≤ 0
 no_bytes NoTrees e = omega arith
 no_bytes (Then t ts) e = absurd (omega (arith, e))
 
+-- If the limit of the elements holds, n times their greatest size holds as the limit of an array of n elements.
 array_holds : (n : ℕ) (l : SizeLimit) (has : Tree → Type 0) → Holds l has → Holds (record l { greatest = repeated n l.greatest }) (IsArray n has)
 array_holds zero l has h = record {
   bounded = λ t f. rw f.1 (no_bytes f.0 f.2);
@@ -53,7 +54,7 @@ array_holds zero l has h = record {
 }
 array_holds (suc n) l has h = holding (array_lawful (suc n) h)
 
--- A float and a number of a fixed width are arrays of bytes.
+-- The limit of n bytes is n. A float and a number of a fixed width are such arrays of bytes.
 bytes_hold : (n : ℕ) → n < 2 ^ 64 → Holds (exactly n) (IsArray n IsByte)
 bytes_hold n few =
     let is : limited (n * 1) ≡ Some n = ap limited (omega arith) ∙ small n few in

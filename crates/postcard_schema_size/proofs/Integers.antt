@@ -1,4 +1,4 @@
--- What holds of bytes and of varints of each width holds of each type of integers.
+-- If P holds of bytes, and of varints of each width with and without a sign, it holds of each type of integers.
 use Rattle.std.proofs.Common.{ℕ, ◌≤◌, inl, inr, refl, arith}
 use Rattle.postcard_wire.specs.Number.{max_digits}
 use Rattle.postcard_wire.specs.Tree.{Tree, IsWidth}

@@ -1,4 +1,4 @@
--- The least sizes of types without parts, of options, lists and arrays.
+-- The least sizes of types without parts, of options, lists and arrays. Each is shown by a bound of all trees, and a tree that reaches it.
 use Rattle.std.proofs.Common.{◌≡◌, inl, inr, ℕ, zero, suc, ◌+◌, ◌*◌, ◌<◌, ◌≤◌, ◌^◌, [], length, refl, sym, ap, subst, ◌∙◌, arith, length-append, encode_utf8, true}
 use Rattle.std.specs.Prelude.{Option, Some, None}
 use Rattle.std.proofs.lemmas.Bool.{cases_lt}
@@ -89,7 +89,7 @@ text_least = record {
   reached = (Text [], ([], refl, IsUtf8-from_ascii [] (λ i. omega arith), omega arith), omega (arith, one_count 0 (omega arith), length-append (digits 0) []));
 }
 
--- A list has at least its count, and the empty one no more.
+-- The least size of a list is 1: the byte of its count, which the empty list has alone.
 pub list_least : (reads : Tree → Type 0) → IsLeastSize (Some 1) (IsSeq reads)
 list_least reads = record {
   fits = omega arith;
@@ -97,7 +97,7 @@ list_least reads = record {
   reached = (Seq NoTrees, (NoTrees, refl, omega arith, tt), omega (arith, one_count 0 (omega arith), length-append (digits 0) []));
 }
 
--- An option has at least one byte, and that without a value no more.
+-- The least size of an option is 1: the byte that says whether there is a value, which `None` has alone.
 shortest_option : (reads : Tree → Type 0) (t : Tree) → IsOption reads t → 1 ≤ tree_len t
 shortest_option reads t (inl e) = rw e (omega arith)
 shortest_option reads t (inr f) = rw f.1 (omega arith)
@@ -114,7 +114,7 @@ each_least : (m : ℕ) (reads : Tree → Type 0) → ((t : Tree) → reads t →
 each_least m reads h NoTrees e = omega arith
 each_least m reads h (Then t ts) e = omega (arith, suc_times (count ts) m, h t e.0, each_least m reads h ts e.1, length-append (canonical t) (canonical_all ts))
 
--- A row of n trees with m bytes each.
+-- If a tree has m bytes, some row of n trees has n * m bytes.
 alike : (n m : ℕ) (reads : Tree → Type 0) (t : Tree) → reads t → tree_len t ≡ m → (ts : Trees) × (count ts ≡ n) × Each reads ts × (trees_len ts ≡ n * m)
 alike zero m reads t r e = (NoTrees, refl, tt, omega arith)
 alike (suc n) m reads t r e =
@@ -132,13 +132,13 @@ some_array n m reads h =
     let (ts, c, each, l) = alike n m reads t r e in
     limited_least tree_len (n * m) (IsArray n reads) (λ u f. rw (f.1, ← f.2) (each_least m reads h.none_shorter f.0 f.3)) (Group ts, (ts, refl, c, each), l)
 
--- The least size of an array is that of its elements together.
+-- The least size of an array is n times that of its elements.
 pub array_least : (n : ℕ) (g : Option ℕ) (reads : Tree → Type 0) → IsLeastSize g reads → IsLeastSize (repeated n g) (IsArray n reads)
 array_least zero g reads h = record { fits = omega arith; none_shorter = λ t f. omega arith; reached = (Group NoTrees, (NoTrees, refl, refl, tt), refl) }
 array_least (suc n) None reads h = λ t f. rw f.1 (never_small n reads h f.0 f.2 f.3)
 array_least (suc n) (Some m) reads h = some_array (suc n) m reads h
 
--- A float and a number of a fixed width are arrays of bytes.
+-- The least size of n bytes is n. A float and a number of a fixed width are such arrays of bytes.
 bytes_least : (n : ℕ) → n < 2 ^ 64 → IsLeastSize (Some n) (IsArray n IsByte)
 bytes_least n few =
     let is : limited (n * 1) ≡ Some n = ap limited (omega arith) ∙ small n few in

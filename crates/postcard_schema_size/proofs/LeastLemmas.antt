@@ -18,7 +18,7 @@ use Rattle.postcard_schema_size.proofs.LeafLeast.{limited_least}
 pub end_least : IsLeastOfRow (Some 0) IsEnd
 end_least = record { fits = omega arith; none_shorter = λ ts e. omega arith; reached = (NoTrees, refl, refl) }
 
--- The least size of a row is that of its first part and that of the others together.
+-- The least size of a row is the sum of that of its first part and that of the others.
 pub then_least : (a b : Option ℕ) (first : Tree → Type 0) (rest : Trees → Type 0) → IsLeastSize a first → IsLeastOfRow b rest
     → IsLeastOfRow (sum_of a b) (IsThen first rest)
 then_least None b first rest h k = λ ts (s, ss, e, f, g). rw e (omega (arith, h s f, length-append (canonical s) (canonical_all ss)))
@@ -45,7 +45,7 @@ group_least (Some m) parts h = record {
 variant_len : (i : ℕ) (t : Tree) → tree_len (Variant i t) ≡ varint_len i + tree_len t
 variant_len i t = omega (arith, count_len i, length-append (digits i) (canonical t))
 
--- The least size of a variant is that of its index and its content together.
+-- The least size of a variant is the sum of its index's size and its content's least size.
 pub variant_least : (i : ℕ) (g : Option ℕ) (content : Tree → Type 0) → i < 2 ^ 32 → IsLeastSize g content
     → IsLeastSize (sum_of (Some (varint_len i)) g) (IsVariantAt i content)
 variant_least i None content few h = λ t (s, e, low, r). rw e (omega (arith, h s r, variant_len i s))
@@ -55,11 +55,11 @@ variant_least i (Some m) content few h =
     (λ t (s, e, low, r). rw e (omega (arith, h.none_shorter s r, variant_len i s)))
     (Variant i u, (u, refl, few, p), omega (arith, d, variant_len i u))
 
--- No variant has an index of more than 32 bits.
+-- If the index has more than 32 bits, the variant has no message, so no least size.
 pub no_variant : (i : ℕ) (content : Tree → Type 0) → 2 ^ 32 ≤ i → IsLeastSize None (IsVariantAt i content)
 no_variant i content many = λ t (s, e, low, r). absurd (omega (arith, low, many))
 
--- The lesser of the least sizes of two sets is that of both together.
+-- If R is the union of P and Q, its least size is the lesser of theirs.
 module _ (P Q R : Tree → Type 0) (split : (t : Tree) → R t → P t ⊎ Q t) (one : (t : Tree) → P t → R t) (other : (t : Tree) → Q t → R t) where
   pub lesser_least : (a b : Option ℕ) → IsLeastSize a P → IsLeastSize b Q → IsLeastSize (lesser_of a b) R
   lesser_least None None h k = λ t r. elim (split t r) [ inl p ↦ h t p | inr q ↦ k t q ]
@@ -82,7 +82,7 @@ module _ (P Q R : Tree → Type 0) (split : (t : Tree) → R t → P t ⊎ Q t) 
         reached = elim (cases_lt a b) [ inl less ↦ (u, one u p, omega (arith, d, less)) | inr more ↦ (v, other v q, omega (arith, e, more)) ];
       }
 
--- The least size of a set is that of a set with the same elements.
+-- If two sets have the same elements, they have the same least size.
 pub same_least : (a : Option ℕ) (P Q : Tree → Type 0) → ((t : Tree) → P t → Q t) → ((t : Tree) → Q t → P t) → IsLeastSize a P → IsLeastSize a Q
 same_least None P Q f g h = λ t q. h t (g t q)
 same_least (Some n) P Q f g h = record {

@@ -17,7 +17,7 @@ use Rattle.postcard_schema_size.specs.declared.sizes.Sizes.{Sizes}
 use Rattle.postcard_schema_size.proofs.Sums.{IsSmall, sum_small, small, sums, greaters, zero_first, zero_last}
 use Rattle.postcard_schema_size.proofs.LeastLemmas.{end_least, then_least, group_least, same_least, lesser_least}
 
--- A function of a list from place k on is that of the element at k followed by those after it.
+-- The list from index k on, under f: within the list it is the element at k and the list from k + 1 on. Past its end it is empty.
 module _ {X Y : Type 0} (f : List X → Y) (xs : List X) (k : ℕ) where
   pub cut : (x : X) → k < length xs → x ≡ get_or xs k x → f (drop k xs) ≡ f (x ∷ drop (k + 1) xs)
   cut x low is = at_drop_more f xs k x low ∙ ap (λ y. f (y ∷ drop (k + 1) xs)) (sym is)
@@ -37,7 +37,7 @@ greatest_from ts i = (limit_from ts (Some i)).greatest
 
 -- ---- Parts in a row
 
--- With the sizes of the types that are left, these sizes make those of all.
+-- These sizes and those of the types that are left have the sums that are the sizes of all types. Both are of 64 bits, or none.
 pub record Total (sizes : Sizes) (left all : MessageTypes) : Type 0 where
   pub small_least : IsSmall sizes.least
   pub small_greatest : IsSmall sizes.greatest
@@ -52,7 +52,7 @@ least_small : (g : Option ℕ) (has : Trees → Type 0) → IsLeastOfRow g has �
 least_small None has h = tt
 least_small (Some n) has h = h.fits
 
--- Before the first part the sizes are 0.
+-- `Total` holds before the first part, with sizes of 0.
 pub total_begin : (sizes : Sizes) (ts : MessageTypes) → sizes.least ≡ Some 0 → sizes.greatest ≡ Some 0 → Total sizes ts ts
 total_begin sizes ts l g = record {
   small_least = rw l (omega arith);
@@ -61,7 +61,7 @@ total_begin sizes ts l g = record {
   greatest = rw (g, zero_first (greatest_all ts) (row_small ts));
 }
 
--- One part more adds its sizes.
+-- `Total` holds after one more part, with its sizes added.
 pub total_step : (before part after : Sizes) (t : MessageType) (left rest all : MessageTypes) → left ≡ then_type t rest
     → IsLeastSize part.least (reads t) → part.greatest ≡ (limit t).greatest
     → after.least ≡ sum_of before.least part.least → after.greatest ≡ sum_of before.greatest part.greatest → Total before left all → Total after rest all
@@ -73,7 +73,7 @@ total_step before part after t left rest all here least is l g total = record {
   greatest = rw (g, sums before.greatest part.greatest (greatest_all rest), is) (rw here at total.greatest);
 }
 
--- After the last part the sizes are those of all.
+-- If no type is left, `Total` gives the sizes of the group of all types.
 pub total_end : (sizes : Sizes) (left all : MessageTypes) → left ≡ no_types → Total sizes left all
     → IsLeastSize sizes.least (IsGroup (reads_all all)) × (sizes.greatest ≡ greatest_all all)
 total_end sizes left all none total = (
@@ -91,7 +91,7 @@ Below k ns = IsVariant (λ i s. (i < k) × reads_at (content_types ns) i s)
 below_or_at : (i k : ℕ) → i < k + 1 → (i < k) ⊎ (i ≡ k)
 below_or_at i k h = elim (cases_lt i k) [ inl low ↦ inl low | inr high ↦ inr (omega (arith, h, high)) ]
 
--- The variant at an index is added to those before it.
+-- The variants below k + 1 are those below k and the one at k, so their least size is the lesser of both.
 module _ (ns : List (Named Schema)) (k : ℕ) (n : Named Schema) (low : k < length ns) (is : n ≡ get_or ns k n) where
   same : reads_at (content_types ns) k ≡ reads (type_of n.content)
   same = content_at ns k n low is

@@ -1,19 +1,20 @@
--- A comment that isn't closed where its text ends is no comment.
+-- If the text ends within a comment, it begins with no complete comment. Each state has one next state, so two runs from the
+-- same start are the same run, and one is the beginning of the other. The bytes: 42 is `*` and 47 is `/`.
 use Rattle.std.proofs.Common.{◌≡◌, ℕ, ◌+◌, ◌<◌, ◌≤◌, List, [], ◌∷◌, length, sym, ap, subst, ◌∙◌, arith, ◌⊎◌, inl, inr}
 use Rattle.postcard_schema_text.specs.FrontLemmas.{same_first, same_rest, not_empty}
 use Rattle.postcard_source.specs.Steps.{Steps, none, more}
 use Rattle.postcard_source.specs.Lexical.{CommentStep, IsBlockComment}
 use Rattle.postcard_source.proofs.Recursion.{first_step}
 
--- A step within a comment.
+-- A step from a state in which a comment is open.
 abbrev pub Inside : ℕ × List ℕ → ℕ × List ℕ → Type 0
 Inside s t = CommentStep s t × (0 < t.0)
 
--- One step follows a state.
+-- No text begins both with `*/` and with `/*`.
 ends_or_begins : (s t u : List ℕ) → s ≡ 42 ∷ 47 ∷ t → s ≡ 47 ∷ 42 ∷ u → ⊥
 ends_or_begins s t u e f = let h : 42 ≡ 47 = same_first (sym e ∙ f) in absurd (omega (arith, h))
 
--- A step inside a comment leads to one state.
+-- Two steps from one state lead to the same state: the same number of open comments, and the same text.
 one_step : (m n k : ℕ) (s t u : List ℕ) → CommentStep (m, s) (n, t) → CommentStep (m, s) (k, u) → (n ≡ k) × (t ≡ u)
 one_step m n k s t u (inl (d, e)) (inl (f, g)) = (omega (arith, d, f), same_rest (same_rest (sym e ∙ g)))
 one_step m n k s t u (inl (d, e)) (inr (inl (f, g))) = absurd (ends_or_begins s t u e g)
@@ -25,16 +26,17 @@ one_step m n k s t u (inr (inr (b, d, e, no_end, no_start))) (inl (f, g)) = absu
 one_step m n k s t u (inr (inr (b, d, e, no_end, no_start))) (inr (inl (f, g))) = absurd (no_start (u, g))
 one_step m n k s t u (inr (inr (b, d, e, no_end, no_start))) (inr (inr (a, f, g, never, neither))) = (sym d ∙ f, same_rest (sym e ∙ g))
 
+-- Pairs with equal parts are equal.
 same_pair : (n k : ℕ) (t u : List ℕ) → n ≡ k → t ≡ u → (λ (x : ℕ × List ℕ). x) (n, t) ≡ (λ (x : ℕ × List ℕ). x) (k, u)
 same_pair n k t u e f = cc
 
--- The same of states as pairs.
+-- Two steps from one state lead to the same state, where each state is one variable.
 same_state : (s t u : ℕ × List ℕ) → CommentStep s t → CommentStep s u → t ≡ u
 same_state (m, s) (n, t) (k, u) f g =
     let both = one_step m n k s t u f g in
     same_pair n k t u both.0 both.1
 
--- Of two states that a start leads to, one leads to the other.
+-- If steps lead from a start to a and to b, steps lead from a to b or from b to a.
 in_line : (start a b : ℕ × List ℕ) → Steps Inside start a → Steps Inside start b → Steps Inside a b ⊎ Steps Inside b a
 in_line start a b first none = inr first
 in_line start a b first (more {s} {t} before step) = elim (in_line start a s first before) as (λ _. Steps Inside a t ⊎ Steps Inside t a) [
@@ -45,18 +47,20 @@ in_line start a b first (more {s} {t} before step) = elim (in_line start a s fir
   ]
 ]
 
--- No step is left where no text is.
+-- From a state without text, no step leads.
 no_step : (s t : ℕ × List ℕ) → s.1 ≡ [] → CommentStep s t → ⊥
 no_step s t empty (inl (d, e)) = not_empty (sym empty ∙ e)
 no_step s t empty (inr (inl (d, e))) = not_empty (sym empty ∙ e)
 no_step s t empty (inr (inr (b, d, e, no_end, no_start))) = not_empty (sym empty ∙ e)
 
--- No more comments are open than bytes were read.
+-- A step doesn't increase the sum of the open comments and the bytes that are left.
 pub step_bound : (s t : ℕ × List ℕ) → CommentStep s t → t.0 + length t.1 ≤ s.0 + length s.1
 step_bound s t (inl (depth, e)) = let h = ap length e in omega (arith, h, depth)
 step_bound s t (inr (inl (depth, e))) = let h = ap length e in omega (arith, h, depth)
 step_bound s t (inr (inr (b, depth, e, no_end, no_start))) = let h = ap length e in omega (arith, h, depth)
 
+-- If steps within the comment lead from its beginning to a state without text, no complete comment begins the text.
+-- By `in_line`, the state where a comment would close is before or after that one, and neither is possible.
 pub never_closed : (text inner rest : List ℕ) (s : ℕ × List ℕ) → text ≡ 47 ∷ 42 ∷ inner → Steps Inside (1, inner) s → s.1 ≡ [] → IsBlockComment text rest → ⊥
 never_closed text inner rest s begins run empty (other, again, (last, steps, end)) =
     let same : other ≡ inner = same_rest (same_rest (sym again ∙ begins)) in

@@ -1,4 +1,4 @@
--- The declarations of one more item.
+-- If the list has the declarations before an item, reading the item makes it the list of those up to and with the item.
 use Rattle.std.proofs.Common.{◌≡◌, ℕ, ◌+◌, ◌<◌, List, [], ◌∷◌, ◌++◌, sym, subst, ◌∙◌, arith, inl, inr, ◌⊎◌}
 use Rattle.std.specs.Prelude.{All, Contains}
 use Rattle.std.proofs.lemmas.List.Elements.{All-contains, Contains-push, Contains-push_cases, Contains-append_left}
@@ -8,6 +8,7 @@ use Rattle.postcard_source.specs.Tokens.{Says}
 use Rattle.postcard_source.specs.Items.{Declares, ReadsItem, NamesDiffer, AreDeclaredBefore}
 use borrow.Author.Count.{below_more}
 
+-- If the names of the declarations differ, and none is the name of d, they still differ once d is added.
 differ_more : (old : List Declaration) (d : Declaration) → NamesDiffer old → All (λ e. Says d.name.text.now e.name → ⊥) old → NamesDiffer (old ++ d ∷ [])
 differ_more old d differ is_new a b has_a has_b says =
     elim (Contains-push_cases old d a has_a) as (λ _. a ≡ b) [
@@ -21,14 +22,16 @@ differ_more old d differ is_new a b has_a has_b says =
       ]
     ]
 
--- The item at index n declares one of these, or nothing.
+-- The item at index n declares one of the known declarations, or nothing.
 abbrev HasItem : List Token → List Declaration → ℕ → Type 0
 HasItem tokens known n = ((d : Declaration) × Contains known d × Declares tokens n d) ⊎ ((d : Declaration) → Declares tokens n d → ⊥)
 
+-- Adding a declaration to the list keeps `HasItem`.
 has_more : (tokens : List Token) (old : List Declaration) (d : Declaration) (n : ℕ) → HasItem tokens old n → HasItem tokens (old ++ d ∷ []) n
 has_more tokens old d n (inl (e, has, is)) = inl (e, Contains-append_left old (d ∷ []) e has, is)
 has_more tokens old d n (inr nothing) = inr nothing
 
+-- Reading the item at index n turns the declarations before index n into those before index n + 1.
 pub declared_more : (tokens : List Token) (n : ℕ) (old new : List Declaration) → AreDeclaredBefore tokens n old → ReadsItem tokens n old new → AreDeclaredBefore tokens (n + 1) new
 declared_more tokens n old new h (inl (nothing, same)) = subst (AreDeclaredBefore tokens (n + 1)) (sym same) (record {
   declared = λ d has. let (i, low, is) = h.declared d has in (i, omega arith, is);

@@ -1,4 +1,4 @@
--- Where brackets begin and end, and what is read of a list.
+-- Which tokens have a bracket that is passed over, and which are within one.
 use Rattle.std.proofs.Common.{◌≡◌, ℕ, ◌+◌, ◌<◌, Bool, true, false, Some, List, Decides, sym, subst, ◌∙◌, true≢false, arith, inl, inr}
 use Rattle.std.specs.Prelude.{slice_get, codes}
 use Rattle.std.proofs.lemmas.Option.{same_Some}
@@ -8,7 +8,7 @@ use Rattle.postcard_source.specs.Kept.{IsAttribute, IsLimit, IsScope, HasBracket
 use Rattle.postcard_source.proofs.Decided.{says_one}
 use borrow.Author.Count.{below_more}
 
--- A bracket that limits a `pub`, where `in` doesn't follow it.
+-- If `(` is at index i, and `crate`, `self` or `super` follows but not `in`, a test for `)` after it decides whether it is a scope.
 pub limits : (tokens : List Token) (i inner after : ℕ) (b : Bool) → IsAt (codes "(") tokens i → inner ≡ i + 1 → (IsAt (codes "in") tokens inner → ⊥) → IsLimit tokens inner → after ≡ inner + 1
     → Decides b (IsAt (codes ")") tokens after) → Decides b (IsScope tokens i)
 limits tokens i inner after b begins is not_in limit is_after d =
@@ -20,6 +20,7 @@ limits tokens i inner after b begins is not_in limit is_after d =
       ],
     )
 
+-- If neither `in` nor `crate`, `self` or `super` is after index i, no scope begins at i.
 pub no_limit : (tokens : List Token) (i inner : ℕ) → inner ≡ i + 1 → (IsAt (codes "in") tokens inner → ⊥) → (IsLimit tokens inner → ⊥) → Decides false (IsScope tokens i)
 no_limit tokens i inner is not_in none = (
   λ e. absurd (true≢false (sym e)),
@@ -29,16 +30,17 @@ no_limit tokens i inner is not_in none = (
   ]),
 )
 
--- A `#` has the bracket of an attribute, or none.
+-- If `#` is at index i, and no bracket of an attribute follows it, i has no bracket.
 pub no_attribute : (tokens : List Token) (i after : ℕ) → IsAt (codes "#") tokens i → after ≡ i + 1 → ((b : ℕ) → IsAttribute tokens after b → ⊥) → (b : ℕ) → HasBracket tokens i b → ⊥
 no_attribute tokens i after hash is none b (inl (_, attribute)) = none b (subst (λ k. IsAttribute tokens k b) (sym is) attribute)
 no_attribute tokens i after hash is none b (inr (is_pub, _, _)) = let e : codes "#" ≡ codes "pub" = says_one tokens i _ _ hash is_pub in cc
 
+-- If no `#` is at index i, and no scope follows it, i has no bracket.
 pub no_scope : (tokens : List Token) (i after : ℕ) → (IsAt (codes "#") tokens i → ⊥) → after ≡ i + 1 → (IsScope tokens after → ⊥) → (b : ℕ) → HasBracket tokens i b → ⊥
 no_scope tokens i after no_hash is none b (inl (hash, _)) = no_hash hash
 no_scope tokens i after no_hash is none b (inr (_, scope, _)) = none (subst (IsScope tokens) (sym is) scope)
 
--- Tokens deeper than `depth` from one index on.
+-- If the tokens between i and `last` are deeper than `depth`, and the one at `last` is too, those between i and `last + 1` are.
 pub deeper_more : (tokens : List Token) (i last depth : ℕ) (next : Token) → slice_get tokens last ≡ Some next → depth < next.depth
     → ((k : ℕ) (t : Token) → i < k → k < last → slice_get tokens k ≡ Some t → depth < t.depth)
     → (k : ℕ) (t : Token) → i < k → k < last + 1 → slice_get tokens k ≡ Some t → depth < t.depth

@@ -1,4 +1,4 @@
--- What is left after a gap or a token is shorter, and the index after a bracket is further.
+-- Each gap and each token takes at least one byte, and each bracket at least one token: so the loops that read them end.
 use Rattle.std.proofs.Common.{◌≡◌, ℕ, ◌+◌, ◌<◌, ◌≤◌, List, ◌∷◌, ◌++◌, length, ap, arith, length-append, inl, inr}
 use Rattle.postcard_source.specs.declared.token.Token.{Token}
 use Rattle.postcard_source.specs.Steps.{Steps, none, more}
@@ -8,7 +8,7 @@ use Rattle.postcard_source.specs.Raw.{IsRaw}
 use Rattle.postcard_source.proofs.Fronts.{letters_front}
 use Rattle.postcard_source.proofs.RawFronts.{raw_letters}
 
--- Behind a front.
+-- If a text is `front` and `rest`, its length is the sum of theirs.
 behind : (text front rest : List ℕ) → text ≡ front ++ rest → length text ≡ length front + length rest
 behind text front rest e = let h = ap length e in omega (arith, h, length-append front rest)
 
@@ -18,7 +18,7 @@ comment_step s t (inl (depth, e)) = let h = ap length e in omega (arith, h)
 comment_step s t (inr (inl (depth, e))) = let h = ap length e in omega (arith, h)
 comment_step s t (inr (inr (b, depth, e, no_end, no_start))) = let h = ap length e in omega (arith, h)
 
--- Several steps leave no more bytes.
+-- Steps inside a comment leave no more bytes than before.
 comment_steps : (s t : ℕ × List ℕ) → Steps (λ a b. CommentStep a b × (0 < b.0)) s t → length t.1 ≤ length s.1
 comment_steps start end none = omega arith
 comment_steps start end (more {s} {t} before step) =
@@ -26,7 +26,7 @@ comment_steps start end (more {s} {t} before step) =
     let next = comment_step s t step.0 in
     omega (arith, first, next)
 
--- A comment takes at least one byte.
+-- A comment in `/*` and `*/` takes at least one byte.
 comment_shorter : (text rest : List ℕ) → IsBlockComment text rest → length rest < length text
 comment_shorter text rest (inner, e, (last, steps, end)) =
     let h = ap length e in
@@ -70,14 +70,14 @@ other_shorter token text rest (inr (no_two, inl (quote, literal))) = literal_sho
 other_shorter token text rest (inr (no_two, inr (no_quote, inl (quote, literal)))) = literal_shorter 39 token text rest literal
 other_shorter token text rest (inr (no_two, inr (no_quote, inr (no_other, (b, low, same, e))))) = let h = ap length e in omega (arith, h)
 
--- So each token takes at least one byte, and the tokens of a text come to an end.
+-- A token takes at least one byte.
 pub token_shorter : (token text rest : List ℕ) → IsTokenAt token text rest → length rest < length text
 unfolding IsTokenAt
 token_shorter token text rest (inl (opens, raw)) = raw_shorter token text rest raw
 token_shorter token text rest (inr (no_raw, inl ((pass, ends, whole), filled))) = let h = behind text token rest whole in omega (arith, h, filled)
 token_shorter token text rest (inr (no_raw, inr (no_word, other))) = other_shorter token text rest other
 
--- A bracket is after the index at which it is looked for.
+-- The index after the bracket that index i has is greater than i.
 pub bracket_further : (tokens : List Token) (i b j : ℕ) → HasBracket tokens i b → EndsBefore tokens b j → i < j
 bracket_further tokens i b j (inl (hash, inl (opens, is))) (opening, closing, last, low, end, is_o, is_c, out, deeper) = omega arith
 bracket_further tokens i b j (inl (hash, inr (mark, opens, is))) (opening, closing, last, low, end, is_o, is_c, out, deeper) = omega arith

@@ -1,4 +1,4 @@
--- The text that a declaration stands for, where each name of another one is replaced by what that stands for.
+-- The text that a declaration stands for. The name of another declaration in it is replaced by what that one stands for.
 use Rattle.std.specs.Prelude.{◌≡◌, ℕ, ◌+◌, ◌<◌, ◌≤◌, ◌⊎◌, Some, List, [], ◌∷◌, ◌++◌, codes, length, slice_get, All, Contains}
 use Rattle.postcard_source.specs.declared.token.Token.{Token}
 use Rattle.postcard_source.specs.declared.declaration.Declaration.{Declaration}
@@ -15,12 +15,12 @@ use Rattle.postcard_source.specs.Steps.{Steps}
 use Rattle.postcard_source.specs.Tokens.{Says, IsAt}
 use Rattle.postcard_source.specs.Words.{IsDiscriminant, IsText}
 
--- The token at index i names a field, which `:` follows, or a variant, which has one bracket around it, or is of the discriminant of one.
+-- The token at index i names a field, which `:` follows. Or, in an enum, it is within one bracket, as a variant's name, or in a discriminant.
 abbrev pub IsMember : List Token → Kind → ℕ → Type 0
 IsMember tokens kind i = IsAt (codes ":") tokens (i + 1)
     ⊎ ((kind ≡ Enum) × (((t : Token) × (slice_get tokens i ≡ Some t) × (t.depth ≡ 1)) ⊎ IsDiscriminant tokens i))
 
--- The token at index i, one of the declaration d, refers to the declaration e: it is the name of e, and no member's, nor of a discriminant.
+-- The token of d at index i refers to the declaration e: it is the name of e, and isn't that of a member or part of a discriminant.
 abbrev pub Refers : List Token → List Declaration → Declaration → ℕ → Declaration → Type 0
 Refers tokens known d i e = (t : Token) × (slice_get tokens i ≡ Some t) × (IsMember tokens d.kind i → ⊥) × Contains known e × Says t.text.now e.name
 
@@ -32,8 +32,8 @@ Mentions tokens known d e = (i : ℕ) × (d.start ≤ i) × (i < d.end) × Refer
 abbrev pub IsOwn : List Token → List Declaration → Declaration → ℕ → List ℕ → Type 0
 IsOwn tokens known d i text = ((e : Declaration) → Refers tokens known d i e → ⊥) × IsText d.kind tokens i text
 
--- The tokens of d before index i stand for this text. Each stands for its own and a blank, and one that refers to a declaration for what
--- all tokens of that one stand for.
+-- The tokens of d before index i stand for this text. A token that refers to a declaration stands for the text of all tokens of
+-- that one. Any other token stands for its own text and a blank.
 pub data Spells (tokens : List Token) (known : List Declaration) : Declaration → ℕ → List ℕ → Type 0 where
   begun : (d : Declaration) → Spells tokens known d d.start []
   own : (d : Declaration) (i j : ℕ) (before text whole : List ℕ) → Spells tokens known d i before → IsOwn tokens known d i text
@@ -41,13 +41,13 @@ pub data Spells (tokens : List Token) (known : List Declaration) : Declaration �
   named : (d e : Declaration) (i j : ℕ) (before text whole : List ℕ) → Spells tokens known d i before → Refers tokens known d i e
       → Spells tokens known e e.end text → j ≡ i + 1 → whole ≡ before ++ text → Spells tokens known d j whole
 
--- What the token at index i of d stands for is added to a text.
+-- The text `after` is `before` and what the token at index i of d stands for.
 abbrev pub Writes : List Token → List Declaration → Declaration → ℕ → List ℕ → List ℕ → Type 0
 Writes tokens known d i before after = (text : List ℕ) × (after ≡ before ++ text)
     × (((own : List ℕ) × IsOwn tokens known d i own × (text ≡ own ++ 32 ∷ []))
     ⊎ ((e : Declaration) × Refers tokens known d i e × Spells tokens known e e.end text))
 
--- What the declaration stands for is added to a text.
+-- The text `after` is `before` and what the declaration stands for.
 abbrev pub Spelled : List Token → List Declaration → Declaration → List ℕ → List ℕ → Type 0
 Spelled tokens known d before after = (text : List ℕ) × (after ≡ before ++ text) × Spells tokens known d d.end text
 
@@ -55,26 +55,27 @@ Spelled tokens known d before after = (text : List ℕ) × (after ≡ before ++ 
 abbrev pub AreInOrder : List Token → List Declaration → Type 0
 AreInOrder tokens known = (d : Declaration) → Contains known d → (d.start ≤ d.end) × (d.end ≤ length tokens)
 
--- By mentions, the one leads to the other in no step or more.
+-- Zero or more mentions lead from d to e.
 abbrev pub Reaches : List Token → List Declaration → Declaration → Declaration → Type 0
 Reaches tokens known d e = Steps (Mentions tokens known) d e
 
--- The declaration reaches one that mentions another, or itself, which reaches it again.
+-- The declaration `root` reaches some d that mentions some e that reaches d again. The two may be the same.
 abbrev pub IsRecursive : List Token → List Declaration → Declaration → Type 0
 IsRecursive tokens known root = (d e : Declaration) × Reaches tokens known root d × Mentions tokens known d e × Reaches tokens known e d
 
--- Each of the declarations but the first is mentioned by the one before it. The last is d.
+-- The declarations begin with `root`, and each mentions the next one. The last argument is the last of them.
 pub data IsChain (tokens : List Token) (known : List Declaration) (root : Declaration) : List Declaration → Declaration → Type 0 where
   alone : Contains known root → (ds : List Declaration) → ds ≡ root ∷ [] → IsChain tokens known root ds root
   linked : (d e : Declaration) (ds es : List Declaration) → IsChain tokens known root ds d → Mentions tokens known d e → es ≡ ds ++ e ∷ []
       → IsChain tokens known root es e
 
--- The problem is that the declarations being replaced, of which the last is d, come to one of them again.
+-- The problem is `Recursive`: if the declarations being replaced are a chain from some `root` to d, that `root` is recursive.
 abbrev pub FindsRecursion : List Token → List Declaration → List Declaration → Declaration → FileProblem → Type 0
 FindsRecursion tokens known within d problem = (problem ≡ Recursive)
     × ((root : Declaration) → IsChain tokens known root within d → IsRecursive tokens known root)
 
--- The tokens of d before index i stand for this number of words: each for one, and one that refers to a declaration for those of that one.
+-- The tokens of d before index i stand for this number of words. A token that refers to a declaration stands for the words of
+-- that one, and any other token for one word.
 pub data Counts (tokens : List Token) (known : List Declaration) : Declaration → ℕ → ℕ → Type 0 where
   no_word : (d : Declaration) → Counts tokens known d d.start 0
   one_word : (d : Declaration) (i j n m : ℕ) → Counts tokens known d i n → ((e : Declaration) → Refers tokens known d i e → ⊥)
@@ -100,25 +101,26 @@ HasMoreAt tokens known d i n = (((e : Declaration) → Refers tokens known d i e
 abbrev pub IsLong : List Token → List Declaration → Declaration → Type 0
 IsLong tokens known d = (n : ℕ) × (65536 ≤ n) × HasMore tokens known d n
 
--- More than 64 names stand for one another from `root` on: of a chain of more than 65 declarations each mentions the next one.
+-- Some chain of mentions from `root` on has more than 65 declarations: `root`, and more than 64 names that are replaced.
 abbrev pub IsNested : List Token → List Declaration → Declaration → Type 0
 IsNested tokens known root = (ds : List Declaration) × (last : Declaration) × IsChain tokens known root ds last × (65 < length ds)
 
--- The problem is that names stand for one another too deeply: `depth` more might do so within those being replaced, of which the last is d.
+-- The problem is `TooDeep`: if the declarations being replaced are a chain from `root` to d, a chain from `root` has more than
+-- `depth` declarations more than they.
 abbrev pub FindsDepth : List Token → List Declaration → List Declaration → Declaration → ℕ → FileProblem → Type 0
 FindsDepth tokens known within d depth problem = (problem ≡ problems.Expression TooDeep)
     × ((root : Declaration) → IsChain tokens known root within d
     → (ds : List Declaration) × (last : Declaration) × IsChain tokens known root ds last × (length within + depth < length ds))
 
--- The problem is one of the declarations being replaced, of which the last is d, or there are too many words, which `IsMore` counts from
--- the first `count` words on.
+-- The problem is recursion or too many names (see above), or that a word follows after 65,536 words: `count` and n more. `IsMore`
+-- says of n that a word follows after n words.
 abbrev pub Finds : List Token → List Declaration → List Declaration → Declaration → ℕ → (ℕ → Type 0) → ℕ → FileProblem → Type 0
 Finds tokens known within d depth IsMore count problem =
     FindsRecursion tokens known within d problem
     ⊎ (FindsDepth tokens known within d depth problem
     ⊎ ((problem ≡ TooLong) × ((n : ℕ) × (65536 ≤ count + n) × IsMore n)))
 
--- The problem is that a declaration within them has the name of e.
+-- The problem is `Recursive`: one of the declarations `within` has the name of e.
 abbrev pub EntersAgain : List Declaration → Declaration → FileProblem → Type 0
 EntersAgain within e problem = (problem ≡ Recursive) × ((x : Declaration) × Contains within x × Says e.name.text.now x.name)
 
@@ -131,8 +133,8 @@ IsSpelledBy tokens known name text = (d : Declaration) × Contains known d × Sa
 abbrev pub IsNoType : List Token → List Declaration → List ℕ → Type 0
 IsNoType tokens known name = (text : List ℕ) × IsSpelledBy tokens known name text × ((schema : Schema) → IsExpression schema text → ⊥)
 
--- If the problem is one of the type with this name. No declaration has the name, or the one that has it is recursive, has too many words or
--- nests too deeply, or stands for no type expression.
+-- What each problem says of the type with this name. No declaration has the name, or the one that has it is recursive, has too many
+-- words or nests too deeply, or stands for no type expression.
 abbrev pub HasProblem : List Token → List Declaration → List ℕ → FileProblem → Type 0
 HasProblem tokens known name problem =
     (problem ≡ NotDeclared → All (λ d. Says name d.name → ⊥) known)

@@ -13,7 +13,7 @@ use Rattle.postcard_source.specs.Expands.{IsSpelledBy, HasProblem}
 use Rattle.postcard_source.specs.Places.{IsPlace}
 use Rattle.postcard_source.specs.Printed.{is_of_type}
 
--- The file's tokens without those that are passed over, and its declarations.
+-- These are the tokens of the file that are kept, and its declarations.
 abbrev pub IsFileOf : List ℕ → List Token → List Declaration → Type 0
 IsFileOf file kept known = ((tokens : List Token) × IsRead file tokens × AreKept tokens kept) × AreDeclarations kept known
 
@@ -21,11 +21,11 @@ IsFileOf file kept known = ((tokens : List Token) × IsRead file tokens × AreKe
 abbrev pub IsExpressionOf : List ℕ → List ℕ → List ℕ → Type 0
 IsExpressionOf file name text = (kept : List Token) × (known : List Declaration) × IsFileOf file kept known × IsSpelledBy kept known name text
 
--- The name stands for the type of such a text.
+-- In the file, the name stands for the type of this schema: its text is a type expression of the schema.
 abbrev pub IsTypeOf : List ℕ → List ℕ → Schema → Type 0
 IsTypeOf file name schema = (text : List ℕ) × IsExpressionOf file name text × IsExpression schema text
 
--- If the problem is one of the type with this name: the file has no declaration of the name, it is recursive, or it is no type.
+-- If the problem is one of the type, the file has tokens and declarations of which the name has this problem (see `HasProblem`).
 abbrev pub HasProblemOf : List ℕ → List ℕ → FileProblem → Type 0
 HasProblemOf file name problem = (is_of_type problem ≡ true) → (kept : List Token) × (known : List Declaration) × IsFileOf file kept known × HasProblem kept known name problem
 

@@ -4,7 +4,7 @@ use Rattle.postcard_source.specs.declared.token.Token.{Token}
 use Rattle.postcard_source.specs.Steps.{Steps}
 use Rattle.postcard_source.specs.Tokens.{IsAt, IsBefore, IsNameAt}
 
--- The bracket of an attribute follows the `#` before index i: `[`, or `!` and `[`. It is at index b.
+-- After a `#`, an attribute goes on at index i with `[`, or with `!` and `[`. This bracket is at index b.
 abbrev pub IsAttribute : List Token → ℕ → ℕ → Type 0
 IsAttribute tokens i b =
     (IsAt (codes "[") tokens i × (b ≡ i))
@@ -43,7 +43,7 @@ IsPassed tokens i = (IsAt (codes "pub") tokens i ⊎ IsAt (codes "::") tokens i)
     ⊎ ((IsNameAt tokens i × IsAt (codes "::") tokens (i + 1))
     ⊎ ((IsAt (codes ",") tokens i × IsAt (codes ">") tokens (i + 1)) ⊎ IsEmptyAngle tokens i))
 
--- The index that is read next, and the tokens that are kept so far.
+-- A step from one state to the next. A state is the index that is read next, and the tokens that are kept so far.
 abbrev pub KeepStep : List Token → ℕ × List Token → ℕ × List Token → Type 0
 KeepStep tokens s u =
     ((b : ℕ) × HasBracket tokens s.0 b × EndsBefore tokens b u.0 × (u.1 ≡ s.1))
@@ -51,6 +51,6 @@ KeepStep tokens s u =
     ⊎ ((t : Token) × (slice_get tokens s.0 ≡ Some t) × ((b : ℕ) → HasBracket tokens s.0 b → ⊥) × (IsPassed tokens s.0 → ⊥)
     × (u.0 ≡ s.0 + 1) × (u.1 ≡ s.1 ++ t ∷ [])))
 
--- These tokens are kept of the file's.
+-- Of all tokens, these are kept.
 abbrev pub AreKept : List Token → List Token → Type 0
 AreKept tokens kept = (i : ℕ) × (length tokens ≤ i) × Steps (KeepStep tokens) (0, []) (i, kept)

@@ -1,4 +1,5 @@
--- How a file is read as tokens: its words, signs and literals, with gaps between them.
+-- How a file is read as tokens: its words, signs and literals, with gaps between them. The bytes: 10 is a new line, 34 is `"`,
+-- 39 is `'`, 42 is `*`, 44 is `,`, 47 is `/`, 58 is `:`, 92 is `\`.
 use Rattle.std.specs.Prelude.{◌≡◌, ◌≢◌, ℕ, ◌+◌, ◌<◌, true, ◌⊎◌, List, [], ◌∷◌, ◌++◌, length, slice_index, codes}
 use Rattle.std.specs.Char.{is_ascii_whitespace}
 use Rattle.postcard_source.specs.declared.token.Token.{Token}
@@ -11,7 +12,7 @@ use Rattle.postcard_source.specs.Words.{Where}
 abbrev pub Begins : ℕ → ℕ → List ℕ → Type 0
 Begins first second text = (after : List ℕ) × (text ≡ first ∷ second ∷ after)
 
--- In a comment: how many comments are open, and the text that is left. `*/` closes one, `/*` opens another.
+-- A step in a comment. A state is the number of open comments and the text that is left: `*/` closes one, `/*` opens another.
 abbrev pub CommentStep : ℕ × List ℕ → ℕ × List ℕ → Type 0
 CommentStep s t =
     ((s.0 ≡ t.0 + 1) × (s.1 ≡ 42 ∷ 47 ∷ t.1))
@@ -31,7 +32,7 @@ IsLineComment text rest = (line : List ℕ) × (text ≡ 47 ∷ 47 ∷ line ++ r
 abbrev pub IsLetter : List ℕ → List ℕ → Type 0
 IsLetter text rest = (b : ℕ) × (((b ≢ 92) × (text ≡ b ∷ rest)) ⊎ (text ≡ 92 ∷ b ∷ rest))
 
--- The text begins with letters, up to the first that is the quote, and with the quote, and `rest` is left.
+-- The text begins with letters up to the first quote, then has that quote, and `rest` is left.
 abbrev pub IsQuoted : ℕ → List ℕ → List ℕ → Type 0
 IsQuoted quote text rest = (last : List ℕ)
     × Steps (λ a b. IsLetter a b × ((after : List ℕ) → a ≡ quote ∷ after → ⊥)) text last × (last ≡ quote ∷ rest)
@@ -44,12 +45,12 @@ IsLiteral quote token text rest = (inner : List ℕ) × (text ≡ quote ∷ inne
 abbrev pub BeginsBy : ℕ → List ℕ → Type 0
 BeginsBy b text = (rest : List ℕ) × (text ≡ b ∷ rest)
 
--- The text begins with a lifetime, after whose name no quote is, and the comma after it if there is one, and `rest` is left.
+-- The text begins with a lifetime: `'` and a name, after which no `'` is. A comma after it is of it too. `rest` is left.
 unfoldable pub IsLifetime : List ℕ → List ℕ → Type 0
 IsLifetime text rest = (inner : List ℕ) × (name : List ℕ) × (after : List ℕ) × (text ≡ 39 ∷ inner) × IsWordFront name inner after × (0 < length name)
     × (BeginsBy 39 after → ⊥) × Where (BeginsBy 44 after) (after ≡ 44 ∷ rest) (rest ≡ after)
 
--- A blank is next.
+-- The text begins with a blank, and `rest` is left.
 abbrev pub IsBlank : List ℕ → List ℕ → Type 0
 IsBlank text rest = (b : ℕ) × (is_ascii_whitespace b ≡ true) × (text ≡ b ∷ rest)
 
@@ -61,7 +62,7 @@ IsGap text rest = IsBlank text rest ⊎ (IsLineComment text rest ⊎ (IsLifetime
 abbrev pub IsSignAt : List ℕ → List ℕ → List ℕ → Type 0
 IsSignAt token text rest = (b : ℕ) × (b < 128) × (token ≡ b ∷ []) × (text ≡ b ∷ rest)
 
--- No word begins the text, and it begins with this token, and `rest` is left: with `::`, a literal, or a sign.
+-- The text begins with this token, which is `::`, a literal or a sign, and `rest` is left.
 abbrev pub IsOtherAt : List ℕ → List ℕ → List ℕ → Type 0
 IsOtherAt token text rest =
     Where (Begins 58 58 text) ((token ≡ codes "::") × (text ≡ 58 ∷ 58 ∷ rest))
@@ -69,11 +70,11 @@ IsOtherAt token text rest =
     (Where (BeginsBy 39 text) (IsLiteral 39 token text rest)
     (IsSignAt token text rest)))
 
--- The text begins with this token, and `rest` is left: with a word, or where no word begins it, with another token.
+-- The text begins with this token, and `rest` is left. The token is a word, or if the text begins with no word, another token.
 abbrev pub IsPlainAt : List ℕ → List ℕ → List ℕ → Type 0
 IsPlainAt token text rest = (IsWordFront token text rest × (0 < length token)) ⊎ (EndsWord text × IsOtherAt token text rest)
 
--- The text begins with this token, and `rest` is left: with a raw literal, or where none begins it, with another token.
+-- The text begins with this token, and `rest` is left. The token is a raw literal, or if the text begins with none, another token.
 unfoldable pub IsTokenAt : List ℕ → List ℕ → List ℕ → Type 0
 IsTokenAt token text rest =
     Where ((hashes : List ℕ) × (inner : List ℕ) × IsRawOpening hashes text inner) (IsRaw token text rest) (IsPlainAt token text rest)

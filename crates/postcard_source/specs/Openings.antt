@@ -10,7 +10,7 @@ use Rattle.postcard_source.specs.Expands.{Spells}
 abbrev pub Opens : List ℕ → Type 0
 Opens text = (rest : List ℕ) × ((text ≡ 40 ∷ rest) ⊎ (text ≡ 123 ∷ rest))
 
--- The token after the name of d is no name, and what it stands for begins so.
+-- The token after the name of d is no name, and what it stands for begins with `(` or `{`.
 abbrev pub BeginsType : List Token → Declaration → Type 0
 BeginsType tokens d = (IsNameAt tokens d.start → ⊥) × ((text : List ℕ) → IsText d.kind tokens d.start text → Opens text)
 

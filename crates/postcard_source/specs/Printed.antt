@@ -1,4 +1,4 @@
--- The texts as which errors of files of declarations are printed.
+-- The printed texts of errors of files of declarations.
 use Rattle.std.specs.Prelude.{◌≡◌, ◌⊎◌, ℕ, Bool, true, false, not, List, ◌++◌, codes}
 use Rattle.std.specs.Fmt.{decimal}
 use Rattle.postcard_schema_text.specs.declared.error.Problem.{Problem}
@@ -34,12 +34,12 @@ file_problem_text (problems.Expression problem) = problem_text problem
 abbrev pub file_error_text : FileError → List ℕ
 file_error_text e = codes "line " ++ decimal e.line ++ codes ", column " ++ decimal e.column ++ codes ": " ++ file_problem_text e.problem
 
--- The problem isn't the type: memory ran out.
+-- Whether the problem is that memory ran out, which says nothing of the type.
 abbrev pub is_limit : Problem → Bool
 is_limit OutOfMemory = true
 is_limit problem = false
 
--- The problem of a file where a type is refused as an expression: that of the expression, or a parameter where no type goes on.
+-- If a type is refused as an expression with p, the file has this problem: p itself, or `Parameter` unless memory ran out.
 abbrev pub IsProblemOf : Problem → FileProblem → Type 0
 IsProblemOf p problem = (problem ≡ problems.Expression p) ⊎ ((problem ≡ Parameter) × (is_limit p ≡ false))
 

@@ -1,4 +1,4 @@
--- Raw literals, in whose letters a `\` is one of them.
+-- Raw literals, in which `\` is a letter as any other. The byte 34 is `"`, and 35 is `#`.
 use Rattle.std.specs.Prelude.{◌≡◌, ℕ, Bool, ◌==◌, ◌⊎◌, List, ◌∷◌, ◌++◌, codes}
 use Rattle.postcard_source.specs.Steps.{Steps}
 use Rattle.postcard_source.specs.Tokens.{IsFrontBy, IsWordFront}
@@ -7,11 +7,11 @@ use Rattle.postcard_source.specs.Tokens.{IsFrontBy, IsWordFront}
 abbrev pub is_hash : ℕ → Bool
 is_hash b = b == 35
 
--- The text begins with these `#`, all that it begins with, or with none, and `rest` is left.
+-- The text begins with these `#`, which may be none, and `rest` is left, which begins with no `#`.
 abbrev pub IsHashFront : List ℕ → List ℕ → List ℕ → Type 0
 IsHashFront hashes text rest = IsFrontBy is_hash hashes text rest
 
--- The word is what a raw literal begins with.
+-- The word is the prefix of a raw literal: `r`, `br` or `cr`.
 abbrev pub IsRawPrefix : List ℕ → Type 0
 IsRawPrefix word = (word ≡ codes "r") ⊎ ((word ≡ codes "br") ⊎ (word ≡ codes "cr"))
 
@@ -19,7 +19,7 @@ IsRawPrefix word = (word ≡ codes "r") ⊎ ((word ≡ codes "br") ⊎ (word ≡
 abbrev pub IsRawOpening : List ℕ → List ℕ → List ℕ → Type 0
 IsRawOpening hashes text inner = (word : List ℕ) × (after : List ℕ) × IsRawPrefix word × IsWordFront word text after × IsHashFront hashes after (34 ∷ inner)
 
--- The text begins with bytes, up to the first quote that these `#` follow, and with both, and `rest` is left.
+-- The text begins with bytes up to the first quote that these `#` follow, then has the quote and the `#`, and `rest` is left.
 abbrev pub IsRawQuoted : List ℕ → List ℕ → List ℕ → Type 0
 IsRawQuoted hashes text rest = (last : List ℕ)
     × Steps (λ a b. ((letter : ℕ) × (a ≡ letter ∷ b)) × ((after : List ℕ) → a ≡ 34 ∷ hashes ++ after → ⊥)) text last × (last ≡ 34 ∷ hashes ++ rest)

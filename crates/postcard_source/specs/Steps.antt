@@ -1,7 +1,7 @@
 -- States that lead to one another, step by step.
 use Rattle.std.specs.Prelude.{ℕ, ◌<◌}
 
--- No step, or one after another, leads from the start to the state.
+-- Zero or more steps lead from the start to the state.
 pub data Steps {S : Type 0} (Step : S → S → Type 0) (start : S) : S → Type 0 where
   none : Steps Step start start
   more : {s t : S} → Steps Step start s → Step s t → Steps Step start t

@@ -29,11 +29,11 @@ IsFrontBy passes front text rest = AllPass passes front × EndsBy passes rest ×
 abbrev pub is_of_word : ℕ → Bool
 is_of_word b = (is_ascii_alphanumeric b || nat_eq b 95) || not (ltb b 128)
 
--- No byte of a word is next.
+-- The text doesn't begin with a byte of a word.
 abbrev pub EndsWord : List ℕ → Type 0
 EndsWord text = EndsBy is_of_word text
 
--- The text begins with this word, all of whose letters it has, or with none, and `rest` is left.
+-- The text begins with this word, which may be empty, and `rest` is left, which begins with no byte of a word.
 abbrev pub IsWordFront : List ℕ → List ℕ → List ℕ → Type 0
 IsWordFront word text rest = IsFrontBy is_of_word word text rest
 

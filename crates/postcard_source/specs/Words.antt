@@ -5,7 +5,7 @@ use Rattle.postcard_source.specs.declared.declaration.Kind.{Kind}
 use Rattle.postcard_source.specs.declared.declaration.Kind.TheVariants.{Struct, Enum, Alias}
 use Rattle.postcard_source.specs.Tokens.{Says, IsAt, IsBefore}
 
--- A where P holds, and otherwise B.
+-- If P holds, A holds, and otherwise B.
 abbrev pub Where : Type 0 → Type 0 → Type 0 → Type 0
 Where P A B = (P × A) ⊎ ((P → ⊥) × B)
 
@@ -38,7 +38,7 @@ IsAliasText tokens i text =
     (Where (IsSign 0 (codes ";") tokens i) (text ≡ codes ")")
     (IsPlainText tokens i text))
 
--- No discriminant goes on at the token: it is outside of all brackets, as the `}` of the enum, or it is the comma after a variant.
+-- A discriminant ends before the token: it is outside of all brackets, as the `}` of the enum, or it is the comma after a variant.
 abbrev pub EndsDiscriminant : List Token → ℕ → Type 0
 EndsDiscriminant tokens i = ((t : Token) × (slice_get tokens i ≡ Some t) × (t.depth ≡ 0)) ⊎ IsSign 1 (codes ",") tokens i
 
@@ -58,6 +58,7 @@ IsEnumText tokens i text =
     (Where (IsLastComma 2 tokens i) (text ≡ [])
     (Where (IsDiscriminant tokens i) (text ≡ []) (IsPlainText tokens i text)))))
 
+-- The token at the index, in a declaration of this kind, stands for this text.
 abbrev pub IsText : Kind → List Token → ℕ → List ℕ → Type 0
 IsText Struct tokens i text = IsStructText tokens i text
 IsText Enum tokens i text = IsEnumText tokens i text

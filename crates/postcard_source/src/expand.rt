@@ -22,7 +22,7 @@ use std::alloc::Global;
 /// How deep declarations may nest. A type expression may nest as deep, and each has a bracket there.
 const MAX_DEPTH: usize = 64;
 
-/// How many words and signs a type may have, with its names replaced.
+/// The greatest number of words and signs of a type, with its names replaced.
 const MAX_WORDS: usize = 65_536;
 
 /// Returns the words of a type expression that spell the type with this name. Fails with

@@ -286,7 +286,8 @@ fn token_front(text: &[u8]) -> Result<(&[u8], &[u8]), ProblemAt>
     }
 }
 
-/// Does the same where no raw literal begins the text.
+/// Returns the token that the text begins with, and the text after it. No raw literal begins the
+/// text. Fails as [`token_front`] does.
 fn plain_front(text: &[u8]) -> Result<(&[u8], &[u8]), ProblemAt>
     ensures read { IfOk result (λ found. IsPlainAt found.0.now text.now found.1.now) }
     ensures other { IfErr result (λ e. is_of_type e.problem ≡ false) }
@@ -298,7 +299,8 @@ fn plain_front(text: &[u8]) -> Result<(&[u8], &[u8]), ProblemAt>
     other_front(text)
 }
 
-/// Does the same where no word begins the text.
+/// Returns the token that the text begins with, and the text after it. Neither a raw literal nor a
+/// word begins the text. Fails as [`token_front`] does.
 fn other_front(text: &[u8]) -> Result<(&[u8], &[u8]), ProblemAt>
     ensures read { IfOk result (λ found. IsOtherAt found.0.now text.now found.1.now) }
     ensures other { IfErr result (λ e. is_of_type e.problem ≡ false) }

@@ -1,4 +1,4 @@
--- The bytes so far stand for those of the file.
+-- The bytes so far are as many as were read, and each is what `plain_byte` makes of the file's byte.
 use Rattle.std.proofs.Common.{◌≡◌, ℕ, ◌<◌, ◌||◌, ltb, leb, length}
 use Rattle.std.specs.Prelude.{slice_index}
 use Rattle.pcard_impl.specs.Plain.{plain_byte}

@@ -1,4 +1,4 @@
--- A word other than `-` is refused at its own first wrong character.
+-- If HEX isn't `-`, its digits are HEX itself, so a failure to read them is a failure of HEX.
 use Rattle.std.proofs.Common.{◌≡◌, codes, arith, refl}
 use Rattle.std.proofs.lemmas.Grind.{common_steps}
 use Rattle.pcard_bytes.proofs.InputLemmas.{digits_fail}

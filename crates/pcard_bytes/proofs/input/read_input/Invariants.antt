@@ -1,4 +1,4 @@
--- All bytes read so far are held, at least one for each read.
+-- The bytes held are those read so far, at least one for each read. A steady input is still steady.
 use Rattle.std.proofs.Common.{◌≤◌, length}
 use Rattle.std.specs.Io.KnownBytes.{Consumes}
 use Rattle.pcard_bytes.proofs.input.read_input.Given as goal

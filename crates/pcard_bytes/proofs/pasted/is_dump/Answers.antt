@@ -1,4 +1,4 @@
--- No line before the loop's place is one of `hexdump -C`, so the remaining lines decide.
+-- No line that was passed is one of `hexdump -C`, so the remaining lines decide.
 use Rattle.std.proofs.Common.{◌==◌, sym, ◌∙◌, ◌+◌, arith}
 use Rattle.std.proofs.lemmas.List.Quantifiers.{position-Some}
 use Rattle.pcard_bytes.specs.Hexadecimal.{is_dump, is_of_hexdump}

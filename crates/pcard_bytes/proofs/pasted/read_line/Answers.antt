@@ -1,4 +1,4 @@
--- A line is wrong where the digits after its offset are wrong.
+-- A line is wrong where the first word of its column is wrong.
 use Rattle.pcard_bytes.proofs.PastedLemmas.{line_refused}
 use Rattle.pcard_bytes.proofs.pasted.read_line.Goals as goal
 

@@ -1,4 +1,4 @@
--- The mark doesn't stand before the loop's place, so the first mark found is the first in the text.
+-- No mark begins before index `end`, so the first mark that the loop finds is the first in the text.
 use Rattle.std.proofs.Common.{sym, ◌∙◌}
 use Rattle.pcard_bytes.proofs.PastedLemmas.{up_to-none, up_to-found, up_to-all}
 use Rattle.pcard_bytes.proofs.pasted.up_to.Goals as goal

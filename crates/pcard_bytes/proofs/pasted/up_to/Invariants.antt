@@ -1,4 +1,4 @@
--- The text up to the mark is the text before the loop's place, and then what stands up to the mark from there on.
+-- The text up to the mark is the bytes before index `end`, and then the text from there on up to the mark.
 use Rattle.std.proofs.Common.{◌≡◌, ◌++◌, take, drop}
 use Rattle.pcard_bytes.specs.Hexadecimal.{up_to}
 use Rattle.pcard_bytes.proofs.pasted.up_to.Given as goal

@@ -1,4 +1,5 @@
--- An option is read, and then those after it.
+-- By cases of the first word: none, an operand, an option without a value, or one with a value. The words after it are read by the same
+-- function.
 use Rattle.std.proofs.Common.{◌≡◌, ◌∷◌, map, string_bytes, sym, ap, ◌∙◌, Global, true, false}
 use Rattle.pcard_call.specs.Options.{has_value}
 use Rattle.pcard_call.specs.Calls.{begins_option, at_end, at_operand, switch, valued, bad_option, no_value, bad_value, after_switch, after_value}

@@ -1,7 +1,7 @@
 use Rattle.std.proofs.Common.{◌+◌, take, drop, arith, refl, inr}
 use Rattle.pcard_calls.proofs.explain.print_frame.Goals as goal
 
--- No COBS frame: nothing is printed.
+-- If the bytes before the first zero are no COBS frame, no row is printed.
 pub returns-in_default-clause-printed : goal.returns-in_default-clause-printed
 returns-in_default-clause-printed g c =
     let end = c.frame_len-end.result in

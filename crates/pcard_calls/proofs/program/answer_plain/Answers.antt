@@ -1,4 +1,4 @@
--- A call is about messages of a type, or another.
+-- By cases: the call is about messages of a type, or it isn't.
 use Rattle.std.proofs.Common.{map, string_bytes, sym, ◌∙◌}
 use Rattle.pcard_call.specs.Options.{given_of}
 use Rattle.pcard_calls.proofs.EndLemmas.{typed_reported, other_reported}

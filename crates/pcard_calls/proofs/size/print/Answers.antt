@@ -1,4 +1,4 @@
--- What is printed is that of the type's least and greatest sizes.
+-- The text printed is that of the type's least size and its greatest, or of the parts that have no greatest.
 use Rattle.std.proofs.Common.{ap, ◌∙◌, map}
 use Rattle.postcard_schema.specs.Paths.{plain_path}
 use Rattle.pcard_calls.proofs.SizeLemmas.{bounded_printed, endless_printed}

@@ -1,4 +1,4 @@
--- The end of the line is printed with the text.
+-- The text and the end of its line are printed by one call.
 use Rattle.std.proofs.Common.{◌+◌, ◌/◌, [], ◌∷◌, ◌++◌, sym, subst, append_assoc}
 use Rattle.std.specs.Prelude.{codes, OnOk}
 use Rattle.std.specs.Io.KnownBytes.{Appends}

@@ -1,4 +1,4 @@
--- The longest row so far is the longest of the rows before the loop's place.
+-- One more line adds its bytes to the count, and may be the longest.
 use Rattle.std.proofs.Common.{arith}
 use Rattle.pcard_explain.proofs.LayoutLemmas.{counted_more, longest_more}
 use Rattle.pcard_explain.proofs.layout.layout_of.Goals as goal

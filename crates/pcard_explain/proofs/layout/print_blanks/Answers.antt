@@ -1,4 +1,4 @@
--- A slice of 64 blanks has the wanted blanks.
+-- The first bytes of a text of 64 blanks are as many blanks as wanted, at most 64.
 use Rattle.std.proofs.Common.{ap, subst, ◌∙◌, arith}
 use Rattle.std.specs.Prelude.{replicate}
 use Rattle.std.specs.Io.KnownBytes.{Appends}

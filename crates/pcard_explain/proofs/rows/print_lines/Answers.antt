@@ -1,4 +1,4 @@
--- The rows of the lines before the loop's place are printed, and one turn adds the row of the next line.
+-- The rows of the lines so far are printed, and one turn adds the row of the next line.
 use Rattle.std.proofs.Common.{◌≡◌, ℕ, ◌+◌, ◌<◌, List, [], ◌∷◌, ◌++◌, length, take, sym, ap, subst, ◌∙◌, arith}
 use Rattle.std.proofs.lemmas.List.{take_more}
 use Rattle.postcard_schema.specs.Paths.{PlainStep, plain_text}

@@ -1,4 +1,4 @@
--- The checksum follows the value or doesn't, as `after_trailer` says.
+-- If `after_trailer` finds the checksum, the data has its value, and otherwise it is refused where the checksum should begin.
 use Rattle.std.proofs.Common.{◌-◌, refl, ap, length, None}
 use Rattle.postcard_schema.specs.Paths.{path_text}
 use Rattle.pcard_print.specs.Answers.{Why}

@@ -1,4 +1,4 @@
--- Each turn prints one answer and leaves fewer bytes. A failure comes at the first answer that isn't a value.
+-- Each turn prints the line of one value and leaves fewer bytes. `Refused` comes at the first message that has no value.
 use Rattle.std.proofs.Common.{sym, ◌∙◌, eqb-true}
 use Rattle.std.proofs.lemmas.List.{nil_from_length}
 use Rattle.std.proofs.lemmas.Result.{err_from_is_err_and}

@@ -1,4 +1,4 @@
--- The lines of the bytes read so far are printed.
+-- The lines of the bytes read so far are printed. They are at least one for each read.
 use Rattle.std.proofs.Common.{◌≡◌, ◌≤◌, ℕ, List, length}
 use Rattle.std.specs.Io.KnownBytes.{Consumes}
 use Rattle.pcard_message.specs.Receiving.{IsAfter}

@@ -1,4 +1,4 @@
--- If there is a name for each part, the parts so far have the first names, and the others are left.
+-- The contents so far and the parts left are all parts. If there is a name for each part, the parts so far have the first names.
 use Rattle.std.proofs.Common.{◌≡◌, ◌++◌, length, map, take}
 use Rattle.postcard_described.specs.{contents, names_of, text_of}
 use Rattle.postcard_described.proofs.make.with_names.Given as goal

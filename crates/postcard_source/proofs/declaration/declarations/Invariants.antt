@@ -1,4 +1,4 @@
--- The declarations so far are those of the items that were read.
+-- The declarations so far are those of the items before the index.
 use Rattle.postcard_source.specs.Items.{AreDeclaredBefore}
 use Rattle.postcard_source.proofs.declaration.declarations.Given as goal
 

@@ -1,4 +1,5 @@
--- Why the functions end: the depth that is left; and what the loop has written.
+-- Why the functions end: each call of `write_declaration` has less depth left, and calls `write_token` with the same depth.
+-- The loop keeps the declarations being replaced, and has written the text and the words of the tokens before index `at`.
 use Rattle.std.proofs.Common.{◌≡◌, List, ℕ, ◌+◌, ◌*◌, ◌++◌, length}
 use Rattle.postcard_source.specs.Tokens.{spelling}
 use Rattle.postcard_source.specs.Expands.{Counts, Spells}

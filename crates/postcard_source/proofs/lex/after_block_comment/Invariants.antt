@@ -1,4 +1,5 @@
--- How many comments are open where the loop is, and how many bytes are left at least.
+-- Steps inside the comment lead from its beginning to the loop's state, in which a comment is open. The open comments and the
+-- bytes that are left are at most 1 and the bytes after the first `/*`. The bytes: 42 is `*`, 47 is `/`.
 use Rattle.std.proofs.Common.{◌≡◌, ◌+◌, ◌<◌, ◌≤◌, ℕ, List, ◌∷◌, length}
 use Rattle.postcard_source.specs.Steps.{Steps}
 use Rattle.postcard_source.specs.Lexical.{CommentStep}

@@ -1,4 +1,4 @@
--- The letters so far aren't the quote.
+-- Letters lead from the text to what is left, and none of them begins with the quote.
 use Rattle.std.proofs.Common.{◌≡◌, List, ℕ, ◌∷◌}
 use Rattle.postcard_source.specs.Steps.{Steps}
 use Rattle.postcard_source.specs.Lexical.{IsLetter}

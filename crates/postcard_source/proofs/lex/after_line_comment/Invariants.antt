@@ -1,4 +1,4 @@
--- The letters so far are no new line.
+-- No letter so far is a new line, the byte 10.
 use Rattle.std.proofs.Common.{◌≡◌, ℕ, ◌-◌, ◌<◌, ◌≤◌, length, get_or}
 use Rattle.postcard_source.proofs.lex.after_line_comment.Given as goal
 

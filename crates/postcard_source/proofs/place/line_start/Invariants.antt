@@ -1,4 +1,4 @@
--- No new line is from the start on.
+-- No byte from `start` up to `end` is a new line, the byte 10.
 use Rattle.std.proofs.Common.{ℕ, ◌≤◌, ◌<◌}
 use Rattle.std.specs.Prelude.{◌≢◌, slice_index}
 use Rattle.postcard_source.proofs.place.line_start.Given as goal

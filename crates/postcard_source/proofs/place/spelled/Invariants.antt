@@ -1,4 +1,4 @@
--- The text so far is that of the words so far.
+-- The text so far is the words so far, each with a blank after it.
 use Rattle.std.proofs.Common.{◌≡◌, take, string_bytes}
 use Rattle.postcard_source.specs.Tokens.{spelling}
 use Rattle.postcard_source.proofs.place.spelled.Given as goal

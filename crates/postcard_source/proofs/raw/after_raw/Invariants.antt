@@ -1,4 +1,4 @@
--- At no byte so far the literal ends.
+-- At no byte so far does the literal end: by a quote, which is the byte 34, and the `#`.
 use Rattle.std.proofs.Common.{◌≡◌, List, ℕ, ◌∷◌, ◌++◌}
 use Rattle.postcard_source.specs.Steps.{Steps}
 use Rattle.postcard_source.proofs.raw.after_raw.Given as goal

@@ -1,4 +1,4 @@
--- No discriminant begins or ends from the index on.
+-- From the index up to the token, no discriminant ends, and no `=` begins one.
 use Rattle.std.proofs.Common.{ℕ, ◌+◌, ◌≤◌}
 use Rattle.std.specs.Prelude.{codes}
 use Rattle.postcard_source.specs.Words.{EndsDiscriminant, IsSign}

@@ -1,4 +1,4 @@
--- One element more is its comma, if others are before it, and its text.
+-- Printing one more element adds its text, after a comma if it isn't the first. `lead i b` is `b` before element i, and nothing if i is 0.
 use Rattle.std.proofs.Common.{ℕ, zero, suc, ◌≡◌, ◌<◌, ◌≤◌, List, [], ◌∷◌, Ok, Some, map, take, length, sym, refl, arith}
 use Rattle.std.proofs.Output.{displays_on_IsOk_append, displays_on_ok_of_eq}
 use Rattle.std.specs.Fmt.{◌++?◌}

@@ -1,4 +1,4 @@
--- One more open part keeps the paths around the lines right.
+-- With the part of the line opened, the place follows the lines up to this one.
 use Rattle.std.proofs.Common.{◌++◌, refl, sym, ap, ◌∙◌}
 use Rattle.std.proofs.lemmas.List.{length-map}
 use Rattle.postcard_schema.specs.Paths.{plain_path, plain_step}

@@ -1,4 +1,4 @@
--- The piece that was read takes the state on, or the input is at its end.
+-- The piece that was read is taken, and `flush` keeps its lines. If it is empty, the input is at its end.
 use Rattle.std.proofs.Common.{◌≡◌, arith, take}
 use Rattle.std.proofs.lemmas.Bool.{ltb-true, ltb-false}
 use Rattle.std.proofs.lemmas.List.{length-take-le}
