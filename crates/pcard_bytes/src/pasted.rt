@@ -79,7 +79,8 @@ fn read_words(alloc: Global, text: &[u8], place: usize, words: &[u8]) -> Result<
     Ok(bytes)
 }
 
-/// Returns the bytes of a word, which begins at the index `place` of the text.
+/// Returns the bytes of a word, which begins at the index `place` of the text. `BadHex` has the
+/// number of the first wrong character of the text, counted from 1.
 fn read_word(alloc: Global, text: &[u8], place: usize, word: &[u8]) -> Result<Vec<u8>, InputError>
     requires { place + length word.now ≤ length text.now }
     ensures value { IfOk result (λ bytes. IsWord word.now bytes.items) }

@@ -4,9 +4,9 @@ use Rattle.std.specs.Prelude.{Result, Ok, Err, IfOk, IfErr}
 use Rattle.std.specs.List.{IsFirstAndRest}
 
 -- If words are a first word and a rest, their bytes are those of the first word and those of the rest.
-pub whole : (words rest : List (String Global)) (w : String Global) (word : List ℕ) → IsFirstAndRest words w rest → word ≡ string_bytes w
+pub first_and_rest : (words rest : List (String Global)) (w : String Global) (word : List ℕ) → IsFirstAndRest words w rest → word ≡ string_bytes w
     → map string_bytes words ≡ word ∷ map string_bytes rest
-whole words rest w word first is = ap (map string_bytes) first.0 ∙ ap (λ z. z ∷ map string_bytes rest) (sym is)
+first_and_rest words rest w word first is = ap (map string_bytes) first.0 ∙ ap (λ z. z ∷ map string_bytes rest) (sym is)
 
 -- A list of no words is empty.
 pub none : (words : List (String Global)) → length words ≡ 0 → words ≡ []

@@ -103,6 +103,7 @@ where
     }
 }
 
+/// Encodes or decodes a string.
 fn convert_text<W: Write>(
     alloc: Global,
     task: Task<'_>,
@@ -120,6 +121,7 @@ fn convert_text<W: Write>(
     }
 }
 
+/// Encodes or decodes a list of numbers.
 fn convert_list<'a, 'f, T, W: Write>(
     alloc: Global,
     task: Task<'a>,

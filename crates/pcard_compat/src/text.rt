@@ -111,7 +111,7 @@ fn place_name(path: &str) -> &str
     if path.is_empty() { "the value" } else { path }
 }
 
-/// Returns the lines of an example.
+/// Returns the lines of the comparison's example, or nothing if it has none.
 fn example_text(
     alloc: Global,
     writer: Version<'_>,

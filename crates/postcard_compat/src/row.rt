@@ -1,6 +1,6 @@
 //! Types as rows of parts and as options, without their names.
 
-ghost use Rattle.std.specs.Prelude.{◌≡◌, ◌<◌, IfSome, get_or, length};
+ghost use Rattle.std.specs.Prelude.{◌≡◌, ◌≤◌, ◌<◌, IfNone, IfSome, get_or, length};
 ghost use Rattle.postcard_compat.specs.{MessageType, SameMessages, Serves, group, option, parts_of};
 ghost use Rattle.postcard_compat.specs.{type_of, types_of};
 
@@ -44,6 +44,7 @@ impl<'a> Row<'a> {
     pub fn get(self, index: usize) -> Option<&'a Schema>
         ensures { IfSome result (λ part. (index < length (parts_of self.entry))
             × (part.now ≡ get_or (parts_of self.entry) index part.now)) }
+        ensures none { IfNone result (length (parts_of self.entry) ≤ index) }
     {
         match self {
             Row::One(schema) => {

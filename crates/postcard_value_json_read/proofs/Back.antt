@@ -63,7 +63,7 @@ chained f (Some a) b e = (a, refl, e)
 same_present : (s t : Tree) → nodes.Present s ≡ nodes.Present t → s ≡ t
 same_present s t e = cc e
 
--- The JSON of an option is read back.
+-- If the JSON of an option's value is read back, so is that of the option.
 option_back : (m : MessageType) (x : Layout) → IsBack (reads m) (json_of x) (IsJsonOf x) → IsBack (reads (option m)) (json_of (layouts.option x)) (IsJsonOf (layouts.option x))
 option_back m x h nodes.Absent d r e = sym (some_is null d e)
 option_back m x h (nodes.Present s) d (inl is) e = absurd (cc is)
@@ -97,7 +97,7 @@ module _ (P : Tree → Type 0) (p : Writer) (R : Reading) where
       (items_of k.0, sym k.2, all_back h ts k.0 (subst (Each P) (sym (same_group ts us is)) each) k.1)
   array_back n h t d r e = absurd (cc e)
 
--- The JSON of an entry of a map is read back.
+-- If the JSON of a key and of a value is read back, so is that of the entry of both.
 entry_back : (P Q : Tree → Type 0) (p q : Writer) (R S : Reading) → IsBack P p R → IsBack Q q S → IsBack (IsGroup (IsThen P (IsThen Q IsEnd))) (entry_json p q) (IsEntryJson R S)
 entry_back P Q p q R S f g (nodes.Group ts) d (us, is, (a, more, first, ra, (b, rest, second, rb, none))) e =
     let whole : ts ≡ Then a (Then b NoTrees) = same_group ts us is ∙ first ∙ ap (Then a) (second ∙ ap (Then b) none) in
@@ -112,7 +112,7 @@ entry_back P Q p q R S f g t d r e = absurd (cc e)
 
 -- ---- tuples
 
--- The JSON of parts in a row is read back.
+-- If the JSON of each part is read back, so are the parts of a row.
 parts_back : (ms : MessageTypes) (xs : Layouts) (ts : Trees) (ds : List Data) → AreReadBack ms xs → reads_all ms ts → each_json (writers xs) ts ≡ Some ds → AreParts xs ts (items_of ds)
 parts_back no_types no_layouts ts ds h none e =
     let same : [] ≡ ds = some_is [] ds (subst (λ z. each_json [] z ≡ Some ds) none e) in
@@ -129,7 +129,7 @@ full_row x xs NoTrees [] h = absurd h
 full_row x xs (Then t ts) [] h = absurd h
 full_row x xs ts (d ∷ ds) h = refl
 
--- The JSON of a tuple is read back.
+-- If the JSON of each part is read back, so is that of the tuple.
 tuple_back : (ms : MessageTypes) (xs : Layouts) → AreReadBack ms xs → IsBack (reads (group ms)) (json_of (layouts.tuple xs)) (IsJsonOf (layouts.tuple xs))
 tuple_back no_types no_layouts h (nodes.Group ts) d (us, is, none) e =
     let empty : ts ≡ NoTrees = same_group ts us is ∙ none in
@@ -178,7 +178,7 @@ record IsStructOf (fs : Fields) (ts : Trees) (before ns : Members) : Type 0 wher
   long : members_len ns ≡ members_len before + fields_len fs
   kept : (q : List ℕ) (d : Data) → get_member q before ≡ Some d → get_member q ns ≡ Some d
 
--- The members of a struct's JSON are read back.
+-- If the JSON of each field is read back, the members that the fields add are those of `IsStructOf`.
 fields_back : (ms : MessageTypes) (fs : Fields) (ts : Trees) (before ns : Members) → AreFieldsBack ms fs → reads_all ms ts → members_json (field_writers fs) ts before ≡ Some ns → IsStructOf fs ts before ns
 fields_back no_types no_fields ts before ns h none e =
     let same : before ≡ ns = some_is before ns (subst (λ z. members_json [] z before ≡ Some ns) none e) in
@@ -201,7 +201,7 @@ fields_back (then_type m ms) (then_field n x fs) ts before ns h (t, us, is, firs
     }
 fields_back ms fs ts before ns h r e = absurd h
 
--- The JSON of a struct is read back.
+-- If the JSON of each field is read back, so is that of the struct.
 struct_back : (ms : MessageTypes) (fs : Fields) → AreFieldsBack ms fs → IsBack (reads (group ms)) (json_of (layouts.structure fs)) (IsJsonOf (layouts.structure fs))
 struct_back ms fs h (nodes.Group ts) d (us, is, r) e =
     let k = mapped object (members_json (field_writers fs) ts no_members) d e in
@@ -211,17 +211,17 @@ struct_back ms fs h t d r e = absurd (cc e)
 
 -- ---- variants
 
--- The JSON of a variant's content is read back.
-content_back : (n : List ℕ) (m : MessageType) (x : Layout) → IsReadBack m x → (t : Tree) (d : Data) → reads m t → variant_json n x (json_of x) t ≡ Some d → IsVariantJson n x (IsJsonOf x) t d
-content_back n m (layouts.tuple no_layouts) h t d r e =
+-- If the JSON of a variant's content is read back, so is that of the variant: its name, or an object of its name and the content.
+variant_back : (n : List ℕ) (m : MessageType) (x : Layout) → IsReadBack m x → (t : Tree) (d : Data) → reads m t → variant_json n x (json_of x) t ≡ Some d → IsVariantJson n x (IsJsonOf x) t d
+variant_back n m (layouts.tuple no_layouts) h t d r e =
     let k = subst (λ z. reads z t) h.unit r in
     (k.1 ∙ ap nodes.Group k.2, sym (some_is (string n) d e))
-content_back n m x h t d r e = let k = mapped (alone n) (json_of x t) d e in (k.0, sym k.2, h.back t k.0 r k.1)
+variant_back n m x h t d r e = let k = mapped (alone n) (json_of x t) d e in (k.0, sym k.2, h.back t k.0 r k.1)
 
--- The JSON of the variant at an index is read back.
+-- If the JSON of each content is read back, so is that of the variant at an index.
 at_back : (ms : MessageTypes) (fs : Fields) → AreFieldsBack ms fs → (i : ℕ) (t : Tree) (d : Data) → reads_at ms i t → json_at fs i t ≡ Some d → IsJsonAt fs i t d
 at_back no_types no_fields h i t d r e = absurd r
-at_back (then_type m ms) (then_field n x fs) h zero t d r e = content_back n m x h.0 t d r e
+at_back (then_type m ms) (then_field n x fs) h zero t d r e = variant_back n m x h.0 t d r e
 at_back (then_type m ms) (then_field n x fs) h (suc i) t d r e = at_back ms fs h.1 i t d r e
 at_back ms fs h i t d r e = absurd h
 
@@ -231,7 +231,7 @@ same_index i j t u e = cc e
 same_held : (i j : ℕ) (t u : Tree) → nodes.Variant i t ≡ nodes.Variant j u → t ≡ u
 same_held i j t u e = cc e
 
--- The JSON of an enum is read back.
+-- If the JSON of each content is read back, so is that of the enum.
 choice_back : (ms : MessageTypes) (fs : Fields) → AreFieldsBack ms fs → IsBack (reads (choice ms)) (json_of (layouts.choice fs)) (IsJsonOf (layouts.choice fs))
 choice_back ms fs h (nodes.Variant i t) d (j, u, is, small, r) e =
     at_back ms fs h i t d (subst (λ k. reads_at ms k t) (sym (same_index i j t u is)) (subst (reads_at ms j) (sym (same_held i j t u is)) r)) e

@@ -37,9 +37,9 @@ explain_part-returns-in_ok-depth-in-Array t c =
     let held = c.in-Array.element in
     let n = c.in-Array.count in
     let item = value held.value in
-    let own = c.in_ok-depth-in-Array.depth in
+    let inner = c.in_ok-depth-in-Array.depth in
     let o = c.in_ok-depth-in-Array.ensures.added in
-    opened_on (ExplainsElements m own item n) (Explains m d b s) (RefusesElements m own item n) (Refuses m d b s) d own b o.0 _ _ _ _ c.explain_elements.result o.1
+    opened_on (ExplainsElements m inner item n) (Explains m d b s) (RefusesElements m inner item n) (Refuses m d b s) d inner b o.0 _ _ _ _ c.explain_elements.result o.1
     (λ ls q. of_array _ _ s held n _ o.0 ls c.in-Array.is o.1 q) (λ ls q. in_array _ _ s held n _ o.0 ls c.in-Array.is o.1 q) o.2
     (rw c.deref-in-Array.ensures at c.explain_elements.ensures)
 
@@ -141,13 +141,13 @@ explain_list-returns-in_ok-push-in-Ok t c = λ s has.
     let d = c.args.place.depth in
     let b = plain_label c.args.place.label in
     let item = item_of c.args.item in
-    let own = c.inside.result.depth in
+    let inner = c.inside.result.depth in
     let k = c.in-Ok.count in
     let r = c.in-Ok.ensures.gives in
     let p = c.in_ok-push-in-Ok.ensures.added in
     let n = number_read 64 r.tree k r.front r.is_read r.has r.is_spelled in
     let shown = p.4 ∙ c.front_of.ensures r.front r.joins in
-    pushed_on m d b s (ExplainsElements m own item k) (RefusesElements m own item k)
+    pushed_on m d b s (ExplainsElements m inner item k) (RefusesElements m inner item k)
     p.0 _ _ _ _ r.front _ c.explain_elements.result
     (λ ls q. of_list _ _ s p.0 item k ls has p.2 p.3 n.0 (rw shown n.1) (rw (← c.inside.ensures.depth) q))
     (λ ls q. in_list _ _ s p.0 item k ls has p.2 p.3 n.0 (rw shown n.1) (rw (← c.inside.ensures.depth) q))
@@ -262,7 +262,7 @@ explain_row-returns-in_err-rest t c =
     let m = c.args.most in
     let d = c.args.place.depth in
     let b = plain_label c.args.place.label in
-    let own = c.in_ok-depth.depth in
+    let inner = c.in_ok-depth.depth in
     let row = parts_of c.args.row in
     let i = c.loop-i.i in
     let name = plain_label c.part.result.0 in
@@ -270,34 +270,34 @@ explain_row-returns-in_err-rest t c =
     let e = c.in_err-rest.field-0.0 in
     let o = c.in_ok-depth.ensures.added in
     let low : i < length row = omega (arith, c.len-i-end.ensures) in
-    let stopped = stops_on (ExplainsParts m own (take i row)) (Refuses m own name x) (RefusesParts m own row)
-    (λ p q h j. in_part own row i name x p q low c.part.ensures h j) _ _ _ _ _ e c.loop-i.invariant c.in_err-rest.ensures in
+    let stopped = stops_on (ExplainsParts m inner (take i row)) (Refuses m inner name x) (RefusesParts m inner row)
+    (λ p q h j. in_part inner row i name x p q low c.part.ensures h j) _ _ _ _ _ e c.loop-i.invariant c.in_err-rest.ensures in
     rw (is_refusal c.from_residual-in_err-rest.result e c.from_residual-in_err-rest.ensures.1)
-    (row_on m d own b row o.0 _ _ _ c.args.bytes.now (Err e) o.1 o.2 stopped)
+    (row_on m d inner b row o.0 _ _ _ c.args.bytes.now (Err e) o.1 o.2 stopped)
 
 pub explain_row-loop-i-preserved : goal.explain_row-loop-i-preserved
 explain_row-loop-i-preserved t c =
     let m = c.args.most in
-    let own = c.in_ok-depth.depth in
+    let inner = c.in_ok-depth.depth in
     let row = parts_of c.args.row in
     let i = c.loop-i.i in
     let name = plain_label c.part.result.0 in
     let x = c.part.result.1.now in
     let low : i < length row = omega (arith, c.len-i-end.ensures) in
     let more : take (i + 1) row ≡ take i row ++ (name, x) ∷ [] = take_more row i (name, x) low ∙ ap (λ y. take i row ++ y ∷ []) (sym c.part.ensures) in
-    adds_both (ExplainsParts m own (take i row)) (Explains m own name x) (ExplainsParts m own (take (i + 1) row))
-    (λ p q h j. rw more (one_part own (take i row) name x p q h j)) _ _ _ _ _ _ c.loop-i.invariant c.in_ok-rest.ensures
+    adds_both (ExplainsParts m inner (take i row)) (Explains m inner name x) (ExplainsParts m inner (take (i + 1) row))
+    (λ p q h j. rw more (one_part inner (take i row) name x p q h j)) _ _ _ _ _ _ c.loop-i.invariant c.in_ok-rest.ensures
 
 pub explain_row-returns : goal.explain_row-returns
 explain_row-returns t c =
     let m = c.args.most in
     let d = c.args.place.depth in
     let b = plain_label c.args.place.label in
-    let own = c.in_ok-depth.depth in
+    let inner = c.in_ok-depth.depth in
     let row = parts_of c.args.row in
     let o = c.in_ok-depth.ensures.added in
     let all : take c.loop-i.i row ≡ row = take_all c.loop-i.i row (omega (arith, c.len-i-end.ensures)) in
-    row_on m d own b row o.0 _ _ _ c.args.bytes.now (Ok c.loop-i.rest) o.1 o.2 (rw all at c.loop-i.invariant)
+    row_on m d inner b row o.0 _ _ _ c.args.bytes.now (Ok c.loop-i.rest) o.1 o.2 (rw all at c.loop-i.invariant)
 
 -- ---- enums
 
@@ -306,7 +306,7 @@ explain_variant-returns t c = λ s is.
     let m = c.args.most in
     let d = c.args.place.depth in
     let b = plain_label c.args.place.label in
-    let own = c.inside.result in
+    let place = c.inside.result in
     let r = c.in-Ok.ensures.gives in
     let i = c.in-Ok.read.0 in
     let x = c.in-Some.variant.now in
@@ -317,7 +317,7 @@ explain_variant-returns t c = λ s is.
     let inside : i < length c.deref.result.now = grind (arith, common_steps) in
     let low : i < length xs = rw c.deref.ensures.value at inside in
     let found : x ≡ get_or xs i x = rw c.deref.ensures.value at c.in-Some.ensures.lookup.1 in
-    pushed_on m d b s (Explains m own.depth (plain_label own.label) x.content) (Refuses m own.depth (plain_label own.label) x.content)
+    pushed_on m d b s (Explains m place.depth (plain_label place.label) x.content) (Refuses m place.depth (plain_label place.label) x.content)
     p.0 _ _ _ _ r.front _ c.explain_part.result
     (λ ls q. of_variant _ _ s p.0 c.args.variants.now i x ls is p.2 low found (rw p.3 (refl, c.deref-2.ensures)) n.0 (rw shown n.1)
     (rw (← c.inside.ensures.depth) (rw c.inside.ensures.label at q)))
