@@ -42,7 +42,7 @@ impl<'a> Row<'a> {
 
     /// Returns the type of the part at an index, counted from 0.
     pub fn get(self, index: usize) -> Option<&'a Schema>
-        ensures { IfSome result (λ part. (index < length (parts_of self.entry))
+        ensures part { IfSome result (λ part. (index < length (parts_of self.entry))
             × (part.now ≡ get_or (parts_of self.entry) index part.now)) }
         ensures none { IfNone result (length (parts_of self.entry) ≤ index) }
     {

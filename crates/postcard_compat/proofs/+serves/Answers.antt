@@ -17,7 +17,7 @@ named_serve-loop-index-preserved t c =
     let o = c.part-item.result in
     let low : k < length os = omega arith in
     let inside : k < length (contents os) = omega (arith, low, contents_length os) in
-    parts_next (parts_of c.args.new) (contents os) k c.in-Some.other.now o.content c.in-Some.ensures.0 c.in-Some.ensures.1
+    parts_next (parts_of c.args.new) (contents os) k c.in-Some.other.now o.content c.in-Some.ensures.part.0 c.in-Some.ensures.part.1
     inside (content_get os k o low c.part-item.is) (c.serves.ensures c.if-not-serves.false) c.loop-index.invariant
 
 pub named_serve-returns : goal.named_serve-returns
@@ -36,7 +36,7 @@ parts_serve-loop-index-preserved t c =
     let os = c.deref-part-items.result.now in
     let k = c.loop-index.index in
     let low : k < length os = omega arith in
-    parts_next (parts_of c.args.new) os k c.in-Some.other.now c.part-item.result c.in-Some.ensures.0 c.in-Some.ensures.1
+    parts_next (parts_of c.args.new) os k c.in-Some.other.now c.part-item.result c.in-Some.ensures.part.0 c.in-Some.ensures.part.1
     low c.part-item.is (c.serves.ensures c.if-not-serves.false) c.loop-index.invariant
 
 pub parts_serve-returns : goal.parts_serve-returns

@@ -6,8 +6,8 @@ use Rattle.postcard_compat.proofs.front.parts_begin.Goals as goal
 
 pub loop-index-preserved : goal.loop-index-preserved
 loop-index-preserved c =
-    front_next (parts_of c.args.new) (parts_of c.args.old) c.loop-index.index c.in-Some.other.now c.in-Some-get.part.now c.in-Some.ensures.0 c.in-Some.ensures.1
-    c.in-Some-get.ensures.0 c.in-Some-get.ensures.1 (c.serves.ensures c.if-not-serves.false) c.loop-index.invariant
+    front_next (parts_of c.args.new) (parts_of c.args.old) c.loop-index.index c.in-Some.other.now c.in-Some-get.part.now c.in-Some.ensures.part.0 c.in-Some.ensures.part.1
+    c.in-Some-get.ensures.part.0 c.in-Some-get.ensures.part.1 (c.serves.ensures c.if-not-serves.false) c.loop-index.invariant
 
 pub returns : goal.returns
 returns c = λ yes.
