@@ -12,7 +12,7 @@ returns c =
     let host = c.take_from_bytes.result in
     let e = c.take_from_bytes.ensures in
     let takes = subst (λ (m : MessageType). HostTakes m bytes host) c.in_ok-schema.ensures.typed
-        (host_takes (type_of c.in_ok-schema.schema) bytes host e.gives e.accepts e.reads_back e.named_error) in
+    (host_takes (type_of c.in_ok-schema.schema) bytes host e.gives e.accepts e.reads_back e.named_error) in
     let sent = c.deref.ensures.value ∙ c.in_ok-message.ensures.gives in
     let read = c.host_reads_written.ensures.same_tree c.args.report.now bytes [] host c.in_ok-message.ensures.fits (sent ∙ sym (append-nil _)) takes in
     record { same_encodings = (rw c.in_ok-value.was at read).0 }
