@@ -12,10 +12,10 @@ use postcard_wire::zigzag::{
 };
 use postcard_wire::{Error, Result};
 
-/// The number of numbers of one byte each that are read at once.
+/// How many one-byte numbers are read at once. They are called a row.
 const ROW: usize = 64;
 
-/// The fewest numbers for which it pays to look for a row.
+/// The fewest numbers that are searched for a row. Below this, the search costs more than it saves.
 const LEAST: usize = 32;
 
 /// A number that is written as a varint.

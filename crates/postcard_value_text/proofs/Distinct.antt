@@ -123,6 +123,7 @@ not_called : (name : List ℕ) (ns : List (Named Schema)) → IsNewTo ns name �
 not_called name [] new = tt
 not_called name (n ∷ ns) new = (All-head (HasOther name) n ns new, not_called name ns (All-tail (HasOther name) n ns new))
 
+-- Fields with different names in the grammar of types have different names in that of values.
 names_differ : (ns : List (Named Schema)) → NamesDiffer ns → texts.NamesDiffer (fields_of ns)
 names_differ [] differ = tt
 names_differ (n ∷ ns) (new, more) = (not_called (string_bytes n.name) ns new, names_differ ns more)

@@ -35,7 +35,7 @@ power (suc j) =
 higher : (i j : ℕ) → i ≤ j → 2 ^ i ≤ 2 ^ j
 higher i j h = pow-le-pow_right {n = 2} (omega arith) h
 
--- A number with 1 in its lowest bit is at least 128 ^ j only if the number is, unless j is 0.
+-- Setting the lowest bit of n doesn't take it past 128 ^ j for a j above 0, since that power is even.
 at_least : (j n : ℕ) → 128 ^ j ≤ bit_or n 1 → 0 < j → 128 ^ j ≤ n
 at_least j n l p =
     elim (cases_lt n (128 ^ j)) [

@@ -1,6 +1,7 @@
 //! Numbers of one width and sign as another.
 
-/// Returns a number of 64 bits cut to each width and widened again, with and without its sign.
+/// Returns the lowest 8, 16 or 32 bits of a number, extended to 64 bits with zeros or with their
+/// sign. For other kinds than 0 to 5, returns whether the number exceeds 7.
 #[unsafe(no_mangle)]
 pub extern "C" fn cut(kind: u32, a: u64) -> u64 {
     match kind {

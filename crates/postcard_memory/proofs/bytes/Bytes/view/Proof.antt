@@ -1,4 +1,5 @@
 -- `view` shares all bytes for as long as the `&` to the `Bytes` has left. Assumes `Logic`.
+-- A comment in brackets lists what the proof holds at that step, in order.
 use Rattle.postcard_memory.proofs.Steps.{ℕ, List, [], ◌∷◌, ◌≡◌, ◌∙◌, ap, sym, refl, w64, w8, named, ‵, raw, ◌⊛◌, tables, ftrue, flft, Val, vint, ◌$◌, ◌∵◌, !, qed, move, keep, split, join, fsplit, fjoin, rewrite, done, enter, alloc_all, pass_all, free_all, look_at, get, through, sets, sets_last, load, fld, stop, agg, and_then, no_more, of_opd, first, blocks, exec, at_ret, returns, look_in, sub, whole, env, plain, yes, u8, peeks, heard, shows, in_a_block, id⊢, use1, Stays, walk_of, stay_dropped, Goes-dropped, suffices, nothing, uint_vals, uint_Tells, Ptr, slice_val, Room, fact, proved}
 use Rattle.std.proofs.Common.{◌<◌, ◌^◌, length, arith}
 use Rattle.std.proofs.VecSteps.Shapes.{after}
