@@ -17,7 +17,7 @@ use Rattle.postcard_de_flavors.specs.Source.{known, IsEndOf}
 use Rattle.postcard_shape.specs.Shape.{never}
 use Rattle.postcard_de.specs.Reads.{ReadsFrom, IsReadError}
 use Rattle.postcard_de.specs.Refuses.{RefusesFrom}
-use Rattle.postcard_c_status.proofs.Numbers.{is_failure}
+use Rattle.postcard_wire.proofs.Statuses.{is_failure}
 use Rattle.postcard_c.specs.declared.reader.Reader.{Reader}
 use Rattle.postcard_c.specs.Reading.{Gets, Settles, IsRefused, AreBytesOf, rest_of}
 

@@ -7,7 +7,7 @@ use Rattle.postcard_wire.specs.Spelling.{Spells}
 use Rattle.postcard_wire.specs.declared.error.Error.{Error}
 use Rattle.postcard_wire.specs.declared.error.Error.TheVariants.{DeserializeUnexpectedEnd}
 use Rattle.postcard_de.specs.Front.{ReadsFront}
-use Rattle.postcard_c_status.specs.Numbers.{number_of}
+use Rattle.postcard_wire.specs.Status.{number_of}
 use Rattle.postcard_c.specs.declared.reader.Reader.{Reader}
 
 -- The bytes of a reader that aren't read yet.

@@ -10,8 +10,8 @@ ghost use Rattle.postcard_c.specs.{crc_16, crc_32, next, rounds};
 use crate::put_fixed::{postcard_put_u16_le, postcard_put_u32_le};
 use crate::reader::{Reader, rest_at};
 use crate::writer::Writer;
-use postcard_c_status::{BAD_CRC, UNEXPECTED_END};
 use postcard_fixint::FixInt;
+use postcard_wire::status::{BAD_CRC, UNEXPECTED_END};
 
 /// The generator of CRC-32/ISO-HDLC without its highest power, the lowest bit first.
 const GENERATOR_32: u32 = 0xedb8_8320;

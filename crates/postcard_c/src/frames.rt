@@ -3,11 +3,11 @@
 ghost use Rattle.std.specs.Prelude.{◌≡◌, ◌≢◌, ◌-◌, ◌≤◌, ◌↔◌, ◌++◌, length, IfOk, IsOk, OnOk};
 ghost use Rattle.postcard_c.specs.{Fills, HasNoData, LeavesData, before_zero, made};
 
-use postcard_c_status::{BAD_FRAME, BUFFER_FULL};
 use postcard_cobs::decode_in_place;
 use postcard_ser_cobs::Cobs;
 use postcard_ser_flavors::{Flavor, Slice, Storage};
 use postcard_wire::Result;
+use postcard_wire::status::{BAD_FRAME, BUFFER_FULL};
 
 /// Writes bytes as a frame after those that a storage holds, and returns the storage in any case.
 /// The second part is `SerializeBufferFull` if and only if the frame has no room.

@@ -19,8 +19,8 @@ ghost use Rattle.postcard_c.specs.{cast_unsigned, w128, w8};
 
 use crate::reader::{Reader, open, rest_at, settle};
 use crate::wide::{halves, joined};
-use postcard_c_status::{BAD_OPTION, UNEXPECTED_END};
 use postcard_wire::Result;
+use postcard_wire::status::{BAD_OPTION, UNEXPECTED_END};
 
 /// Reads a `bool`. Fails with `DeserializeBadBool` if the byte is neither 0 nor 1.
 #[unsafe(no_mangle)]

@@ -10,8 +10,8 @@ ghost use Rattle.postcard_c.specs.{GetsBytes, GetsFixed, big, little};
 
 use crate::reader::{Reader, rest_at};
 use crate::wide::halves;
-use postcard_c_status::UNEXPECTED_END;
 use postcard_fixint::FixInt;
+use postcard_wire::status::UNEXPECTED_END;
 
 /// Reads as many bytes as `bytes` has, and copies them there.
 fn fill(reader: &mut Reader<'_>, bytes: &mut [u8]) -> u32

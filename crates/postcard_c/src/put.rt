@@ -12,7 +12,7 @@ ghost use Rattle.postcard_c.specs.{w8};
 
 use crate::wide::joined;
 use crate::writer::{Writer, append, put_counted, put_number, refuse};
-use postcard_c_status::{BAD_CHAR, BAD_UTF8};
+use postcard_wire::status::{BAD_CHAR, BAD_UTF8};
 use postcard_wire::text::is_utf8;
 use postcard_wire::varint::{VARINT_MAX_128, varint_u128};
 use postcard_wire::zigzag::{zig_zag_i16, zig_zag_i32, zig_zag_i64, zig_zag_i128};

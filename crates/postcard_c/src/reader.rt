@@ -3,10 +3,10 @@
 ghost use Rattle.std.specs.Prelude.{◌≡◌, ◌-◌, drop, length};
 ghost use Rattle.postcard_c.specs.{Settles, rest_of, source_of};
 
-use postcard_c_status::status_of;
 use postcard_de::Deserializer;
 use postcard_de_flavors::Slice;
 use postcard_wire::Result;
+use postcard_wire::status::status_of;
 
 /// A reader over the caller's bytes.
 ///

@@ -3,7 +3,7 @@
 ghost use Rattle.std.specs.Prelude.{◌≡◌, ◌+◌, ◌<◌, ◌≤◌, [], ◌++◌, length, IsTrue};
 ghost use Rattle.postcard_c.specs.{Puts, Refuses, WrittenAt, digits};
 
-use postcard_c_status::BUFFER_FULL;
+use postcard_wire::status::BUFFER_FULL;
 use postcard_wire::varint::{VARINT_MAX_64, write_u64};
 
 /// A writer over the caller's buffer.

@@ -16,7 +16,7 @@ use Rattle.postcard_value.specs.declared.value.Value.{Value}
 use Rattle.postcard_value_text.specs.Layout.{layout_of}
 use Rattle.postcard_value_text.specs.Shown.{text}
 use Rattle.postcard_value_text.specs.Spelled.{SpellsValue}
-use Rattle.postcard_c_status.specs.Numbers.{number_of}
+use Rattle.postcard_wire.specs.Status.{number_of}
 
 -- The first `taken` of the bytes spell a value of the type that the expression says.
 pub record HasMessage (expression bytes : List ℕ) (taken : ℕ) : Type 0 where

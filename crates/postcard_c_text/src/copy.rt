@@ -3,7 +3,7 @@
 ghost use Rattle.std.specs.Prelude.{◌≡◌, ◌⊎◌};
 ghost use Rattle.postcard_c_text.specs.{CopiesOut};
 
-use postcard_c_status::BUFFER_FULL;
+use postcard_wire::status::BUFFER_FULL;
 
 /// Copies bytes to the front of a buffer, and their number to `count`. Fails with the status 2 if
 /// and only if they have no room. The buffer is then unchanged, and `count` is the size that it

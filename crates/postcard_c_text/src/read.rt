@@ -4,11 +4,11 @@ ghost use Rattle.std.specs.Prelude.{◌≡◌, ◌⊎◌, ◌+◌, ◌≤◌, le
 ghost use Rattle.postcard_c_text.specs.{IsExpression, IsRefused, IsTree, ReadsFront, characters};
 ghost use Rattle.postcard_c_text.specs.{reads, type_of};
 
-use postcard_c_status::{BAD_TYPE, OUT_OF_MEMORY, status_of};
 use postcard_schema::Schema;
 use postcard_schema_text::{Problem, parse};
 use postcard_value::{Value, refused_at, take_from_bytes};
 use postcard_wire::Error;
+use postcard_wire::status::{BAD_TYPE, OUT_OF_MEMORY, status_of};
 use std::alloc::Global;
 
 /// Reads a type expression. Fails as `postcard_to_text` does, with `place` as there.

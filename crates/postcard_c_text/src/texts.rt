@@ -8,11 +8,11 @@ ghost use Rattle.postcard_c_text.specs.{text_of_tree, tree, type_of};
 
 use crate::copy::copy_out;
 use crate::read::{message_of, schema_of};
-use postcard_c_status::{BAD_TEXT, OUT_OF_MEMORY};
 use postcard_schema::Schema;
 use postcard_ser_flavors::AllocVec;
 use postcard_value::{Value, to_flavor};
 use postcard_value_text::{Shown, TextError, read_text};
+use postcard_wire::status::{BAD_TEXT, OUT_OF_MEMORY};
 use std::alloc::Global;
 
 /// Prints the value of a type that some bytes begin with, into the front of `text`.

@@ -4,6 +4,7 @@ pub mod Writing
 pub mod Lengths
 pub mod Pushed
 pub mod Refused
+pub mod Statuses
 pub mod Ranged
 pub mod Folded
 pub mod Shortest

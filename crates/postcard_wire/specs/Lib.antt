@@ -5,6 +5,7 @@ pub mod Spelling
 pub mod Reading
 pub mod Digits
 pub mod Error
+pub mod Status
 pub mod Words
 -- The words that clauses of this crate cite, under one path.
 pub use Rattle.postcard_wire.specs.Digits.{HasRead, PushReturns, ReadsNum, RefusesNum, Within}
@@ -15,6 +16,7 @@ pub use Rattle.postcard_wire.specs.Reading.{IsDelimited, IsEnd, IsGroup, IsInt, 
 pub use Rattle.postcard_wire.specs.Reading.{IsSeq, IsText, IsThen, IsVariant, PartsWellFormed}
 pub use Rattle.postcard_wire.specs.Reading.{ReadsWellFormed}
 pub use Rattle.postcard_wire.specs.Spelling.{BeginsWithChar, Spells, canonical}
+pub use Rattle.postcard_wire.specs.Status.{number_of}
 pub use Rattle.postcard_wire.specs.Tree.{IsWidth, Num, Trees, WellFormed}
 pub use Rattle.postcard_wire.specs.Words.{AreBytes, AreCut, IsCut, IsNarrow, word_of}
 pub use Rattle.postcard_wire.specs.declared.error.Error.TheVariants.{OutOfMemory}

@@ -9,7 +9,7 @@ use Rattle.postcard_wire.specs.declared.error.Error.TheVariants.{DeserializeBadU
 use Rattle.postcard_wire.specs.declared.error.Error.TheVariants.{DeserializeBadEnum, DeserializeBadEncoding}
 use Rattle.postcard_wire.specs.declared.error.Error.TheVariants.{DeserializeBadCrc, SerdeSerCustom}
 use Rattle.postcard_wire.specs.declared.error.Error.TheVariants.{SerdeDeCustom, CollectStrError, OutOfMemory}
-use Rattle.postcard_c_status.specs.Numbers.{number_of}
+use Rattle.postcard_wire.specs.Status.{number_of}
 
 -- No error has the number 0.
 pub is_failure : (e : Error) → 0 < number_of e

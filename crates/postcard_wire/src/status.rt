@@ -1,12 +1,11 @@
 //! The numbers by which C knows the errors: a status is 0 for success, or the number of an error
-//! (`specs/Numbers.antt`). Both static libraries, `postcard_c` and `postcard_c_text`, return them;
+//! (`specs/Status.antt`). Both static libraries, `postcard_c` and `postcard_c_text`, return them;
 //! `c/postcard.h` has their names. The last two stand for no [`Error`].
-#![tactic(auto)]
 
 ghost use Rattle.std.specs.Prelude.{◌≡◌, ◌<◌};
-ghost use Rattle.postcard_c_status.specs.{number_of};
+ghost use Rattle.postcard_wire.specs.{number_of};
 
-use postcard_wire::Error;
+use crate::error::Error;
 
 /// There is no room for what was to be written.
 pub const BUFFER_FULL: u32 = 2;
