@@ -7,7 +7,7 @@ use Rattle.crc.specs.declared.catalog.TheConstants.{CRC_64_XZ}
 use Rattle.postcard_schema.specs.Meaning.{MessageType}
 use Rattle.postcard_schema.specs.Views.{View}
 use Rattle.postcard_key.specs.Shape.{shape_text}
-use Rattle.postcard_key.specs.Named.{named_text}
+use Rattle.postcard_schema.specs.Named.{named_text}
 
 -- CRC-64/XZ, by its parameters.
 abbrev pub xz : Parameters

@@ -1,5 +1,6 @@
 -- A schema as a plain value, without places in memory: its type, with the text of each name.
 use Rattle.std.specs.Prelude.{ℕ, List, [], ◌∷◌, map, string_bytes, box_value}
+use Rattle.postcard_schema.specs.Meaning.{MessageType, MessageTypes, leaf, option, seq, array, group, choice, no_types, then_type, entry_of}
 use Rattle.postcard_schema.specs.declared.leaf.Leaf.{Leaf}
 use Rattle.postcard_schema.specs.declared.schema.Named.{Named}
 use Rattle.postcard_schema.specs.declared.schema.Schema.{Schema, fold-Schema}
@@ -60,3 +61,23 @@ views ss = views_of (map view ss)
 -- The names of fields or variants, each with the view of its type.
 abbrev pub named_views : List (Named Schema) → NamedViews
 named_views ns = named_of (map (named view) ns)
+
+-- The type of a view: the view without names.
+abbrev mutual
+  pub message_type : View → MessageType
+  message_type (leaf_view l) = leaf l
+  message_type (option_view v) = option (message_type v)
+  message_type (seq_view v) = seq (message_type v)
+  message_type (map_view k v) = seq (entry_of (message_type k) (message_type v))
+  message_type (array_view n v) = array n (message_type v)
+  message_type (tuple_view vs) = group (message_types vs)
+  message_type (struct_view ns) = group (held_types ns)
+  message_type (enum_view ns) = choice (held_types ns)
+
+  pub message_types : Views → MessageTypes
+  message_types no_views = no_types
+  message_types (then_view v vs) = then_type (message_type v) (message_types vs)
+
+  pub held_types : NamedViews → MessageTypes
+  held_types no_names = no_types
+  held_types (then_name name v ns) = then_type (message_type v) (held_types ns)

@@ -12,11 +12,12 @@ use Rattle.postcard_schema.specs.declared.schema.Schema.TheVariants as schemas
 use Rattle.postcard_schema_message.specs.declared.error.Problem.{Problem}
 use Rattle.postcard_schema_message.specs.declared.error.Problem.TheVariants.{ElementWithoutBytes, OutOfMemory}
 use Rattle.postcard_schema_message.specs.Nodes.{NodeView, leaf_node, option_node, seq_node, map_node, array_node, tuple_node, struct_node, enum_node}
-use Rattle.postcard_schema_message.specs.Bounded.{HasEmptyElements, IsFull, message_type}
+use Rattle.postcard_schema_message.specs.Bounded.{HasEmptyElements, IsFull}
+use Rattle.postcard_schema.specs.Views.{message_type}
 use Rattle.postcard_schema_message.specs.Making.{Each, IsMade, make, paired}
 use Rattle.postcard_schema_message.proofs.Made.{named_full, paired_held, row_full}
-use Rattle.postcard_schema_message.proofs.Typed.{typed}
-use Rattle.postcard_schema_message.proofs.Views.{view_array, view_leaf, view_map, view_option, view_seq, view_tuple}
+use Rattle.postcard_schema.proofs.Typed.{typed}
+use Rattle.postcard_schema.proofs.ViewLemmas.{view_array, view_leaf, view_map, view_option, view_seq, view_tuple}
 
 -- Why no schema is made.
 abbrev pub IsUnmade : Problem → NodeView → List View → Type 0

@@ -1,7 +1,5 @@
 pub mod Rows
 pub mod Refused
-pub mod Typed
-pub mod Views
 pub mod Pushed
 pub mod Made
 pub mod ByKind

@@ -6,7 +6,8 @@ use Rattle.postcard_schema.specs.Views.{View, named, named_of, struct_view, enum
 use Rattle.postcard_schema.specs.declared.schema.Named.{Named}
 use Rattle.postcard_schema.specs.declared.schema.Schema.{Schema}
 use Rattle.postcard_schema_message.specs.Nodes.{NodeView, leaf_node, option_node, seq_node, map_node, array_node, tuple_node, struct_node, enum_node, arity, held_preorder, levels, listed, name_text, names, parts_preorder, preorder, preorder_all}
-use Rattle.postcard_schema_message.specs.Bounded.{IsFull, held_types, message_types, view_depth}
+use Rattle.postcard_schema_message.specs.Bounded.{IsFull, view_depth}
+use Rattle.postcard_schema.specs.Views.{held_types, message_types}
 use Rattle.postcard_schema_message.specs.Making.{Each, greatest, make, paired}
 
 -- ---- Parts in a row

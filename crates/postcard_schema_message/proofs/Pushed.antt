@@ -10,7 +10,7 @@ use Rattle.postcard_schema.specs.declared.schema.Schema.{Schema}
 use Rattle.postcard_schema.specs.declared.schema.Schema.TheVariants as schemas
 use Rattle.postcard_schema_message.specs.Nodes.{NodeView, enum_node, name_text, preorder, preorder_all, struct_node, tuple_node}
 use Rattle.postcard_schema_message.proofs.Made.{enum_preorder, field_names, field_views, firsts, struct_preorder, tuple_preorder}
-use Rattle.postcard_schema_message.proofs.Views.{view_tuple}
+use Rattle.postcard_schema.proofs.ViewLemmas.{view_tuple}
 
 -- The node n, and then the nodes xs, are the nodes ys.
 pub with_parts : {T E : Type 0} (r : Result T E) (a b c xs ys : List NodeView) (n : NodeView) → n ∷ xs ≡ ys → b ≡ a ++ n ∷ [] → OnOk r (c ≡ b ++ xs) → OnOk r (c ≡ a ++ ys)

@@ -6,7 +6,8 @@ use Rattle.postcard_schema.specs.Views.{View, Views, NamedViews, leaf_view, opti
 use Rattle.postcard_schema_message.specs.declared.error.Problem.{Problem}
 use Rattle.postcard_schema_message.specs.declared.error.Problem.TheVariants.{Malformed, TooDeep, ElementWithoutBytes, OutOfMemory}
 use Rattle.postcard_schema_message.specs.Nodes.{NodeView, arity, held, listed, preorder, preorder_all}
-use Rattle.postcard_schema_message.specs.Bounded.{HasEmptyElements, HasPart, IsBounded, IsDeep, Refuses, held_types, message_types}
+use Rattle.postcard_schema_message.specs.Bounded.{HasEmptyElements, HasPart, IsBounded, IsDeep, Refuses}
+use Rattle.postcard_schema.specs.Views.{held_types, message_types}
 use Rattle.postcard_schema_message.specs.Making.{Each}
 use Rattle.postcard_schema_message.specs.Building.{CannotBuild}
 use Rattle.postcard_schema_message.proofs.Rows.{after_root, alone, end_row, first_root, parts_length, parts_of, same_row}

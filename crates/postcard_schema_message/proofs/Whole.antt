@@ -14,7 +14,7 @@ use Rattle.postcard_schema_message.specs.Building.{AreBuilt, forest}
 use Rattle.postcard_schema_message.proofs.Built.{built_last, forest_length, forest_push}
 use Rattle.postcard_schema_message.proofs.Refused.{not_one}
 use Rattle.postcard_schema_message.proofs.Rows.{alone}
-use Rattle.postcard_schema_message.proofs.Typed.{typed}
+use Rattle.postcard_schema.proofs.Typed.{typed}
 
 -- The last node that is left, before the nodes xs.
 pub whole_at : (ns ms : List Node) (n : Node) (xs whole : List NodeView) → ns ≡ ms ++ n ∷ [] → node_views ns ++ xs ≡ whole → node_views ms ++ node_view n ∷ xs ≡ whole

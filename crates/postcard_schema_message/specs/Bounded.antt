@@ -1,31 +1,11 @@
 -- Which schemas are built: those within the bounds that types of expressions have. And why a list of nodes gives none.
 use Rattle.std.specs.Prelude.{◌≡◌, ℕ, ◌<◌, ◌≤◌, false, List, ◌∷◌, ◌++◌}
 use Rattle.postcard_schema.specs.Bounds.{ElementsHaveBytes, depth}
-use Rattle.postcard_schema.specs.Meaning.{MessageType, MessageTypes, leaf, option, seq, array, group, choice, no_types, then_type, entry_of, has_bytes}
-use Rattle.postcard_schema.specs.Views.{View, Views, NamedViews, leaf_view, option_view, seq_view, map_view, array_view, tuple_view, struct_view, enum_view, no_views, then_view, no_names, then_name}
+use Rattle.postcard_schema.specs.Meaning.{entry_of, has_bytes}
+use Rattle.postcard_schema.specs.Views.{View, leaf_view, option_view, seq_view, map_view, array_view, tuple_view, struct_view, enum_view, message_type}
 use Rattle.postcard_schema_message.specs.declared.error.Problem.{Problem}
 use Rattle.postcard_schema_message.specs.declared.error.Problem.TheVariants.{Malformed, TooDeep, ElementWithoutBytes, OutOfMemory}
 use Rattle.postcard_schema_message.specs.Nodes.{NodeView, preorder, preorder_all}
-
--- The type of a view: the view without names.
-abbrev mutual
-  pub message_type : View → MessageType
-  message_type (leaf_view l) = leaf l
-  message_type (option_view v) = option (message_type v)
-  message_type (seq_view v) = seq (message_type v)
-  message_type (map_view k v) = seq (entry_of (message_type k) (message_type v))
-  message_type (array_view n v) = array n (message_type v)
-  message_type (tuple_view vs) = group (message_types vs)
-  message_type (struct_view ns) = group (held_types ns)
-  message_type (enum_view ns) = choice (held_types ns)
-
-  pub message_types : Views → MessageTypes
-  message_types no_views = no_types
-  message_types (then_view v vs) = then_type (message_type v) (message_types vs)
-
-  pub held_types : NamedViews → MessageTypes
-  held_types no_names = no_types
-  held_types (then_name name v ns) = then_type (message_type v) (held_types ns)
 
 -- How deep the types of a view are nested.
 abbrev pub view_depth : View → ℕ

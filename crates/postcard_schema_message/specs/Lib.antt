@@ -13,7 +13,8 @@ pub use Rattle.postcard_schema.specs.Meaning.{contents, type_of}
 pub use Rattle.postcard_schema.specs.Views.{view}
 pub use Rattle.postcard_schema_message.specs.Nodes.{arity, levels, name_text, node_view}
 pub use Rattle.postcard_schema_message.specs.Nodes.{node_views, preorder, preorder_all, texts}
-pub use Rattle.postcard_schema_message.specs.Bounded.{HasPart, IsBounded, Refuses, message_type}
+pub use Rattle.postcard_schema_message.specs.Bounded.{HasPart, IsBounded, Refuses}
+pub use Rattle.postcard_schema.specs.Views.{message_type}
 pub use Rattle.postcard_schema_message.specs.Leaves.{integer_index, leaf_at, leaf_back, leaf_index}
 pub use Rattle.postcard_schema_message.specs.Printed.{problem_text}
 pub use Rattle.postcard_schema_message.specs.Variants.{IsVariantOf}

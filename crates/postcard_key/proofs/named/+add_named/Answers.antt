@@ -2,11 +2,11 @@
 use Rattle.std.proofs.Common.{◌≡◌, ◌+◌, ◌<◌, [], ◌∷◌, ◌++◌, length, drop, sym, ap, ◌∙◌, arith}
 use Rattle.std.specs.Prelude.{codes}
 use Rattle.std.proofs.lemmas.List.{drop_all, drop_more}
-use Rattle.postcard_schema.proofs.ViewLemmas.{view_struct, view_enum}
+use Rattle.postcard_schema.proofs.ViewLemmas.{view_option, view_seq, view_map, view_array, view_struct, view_enum}
 use Rattle.postcard_schema.specs.Views.{named_views, views}
-use Rattle.postcard_key.specs.Named.{named_fields_text, named_parts_text, named_variants_text}
+use Rattle.postcard_schema.specs.Named.{named_fields_text, named_parts_text, named_variants_text}
 use Rattle.postcard_key.proofs.Steps.{then_text, with_text}
-use Rattle.postcard_key.proofs.Views.{enum_text, some_items, view_array, view_map, view_option, view_seq}
+use Rattle.postcard_key.proofs.Views.{enum_text, some_items}
 use Rattle.postcard_key.proofs.named.+add_named.Goals as goal
 
 pub add_named-returns-in-Option : goal.add_named-returns-in-Option

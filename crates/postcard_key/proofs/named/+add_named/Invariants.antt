@@ -4,7 +4,7 @@ use Rattle.std.specs.Prelude.{codes}
 use Rattle.crc.specs.Digest.{Progress}
 use Rattle.postcard_schema.specs.Views.{named_views, struct_view, tuple_view, views}
 use Rattle.postcard_key.specs.Keys.{Continues}
-use Rattle.postcard_key.specs.Named.{named_fields_text, named_parts_text, named_text, named_variants_text}
+use Rattle.postcard_schema.specs.Named.{named_fields_text, named_parts_text, named_text, named_variants_text}
 use Rattle.postcard_key.proofs.named.+add_named.Given as goal
 
 abbrev pub invariant-add_parts-loop-part : goal.invariant-add_parts-loop-part

@@ -6,8 +6,7 @@ use Rattle.postcard_schema.specs.declared.schema.Schema.TheOpen.{Schema-F}
 use Rattle.postcard_schema.specs.declared.schema.Schema.TheOpen as open_schema
 use Rattle.postcard_schema.specs.declared.schema.Schema.TheShapes.{former-Schema-Struct-0-at-2}
 use Rattle.postcard_schema.specs.Meaning.{MessageType, MessageTypes, array, choice, contents, entry_of, group, option, row_of, seq, then_type, type_of, type_step}
-use Rattle.postcard_schema.specs.Views.{View, named, named_of, view, view_step, views_of}
-use Rattle.postcard_schema_message.specs.Bounded.{held_types, message_type, message_types}
+use Rattle.postcard_schema.specs.Views.{View, held_types, message_type, message_types, named, named_of, view, view_step, views_of}
 
 -- A schema of which this is known.
 abbrev Told : Type 0

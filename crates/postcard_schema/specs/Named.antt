@@ -1,5 +1,5 @@
--- The text of a type with names: a type expression without blanks. Two types have no expression: an enum without variants, whose text is
--- `(|)`, and a struct without fields, whose text is `{}`.
+-- The text of a type with names, without blanks. It is a type expression, if the type has one. An enum without variants has the text `(|)`,
+-- and a struct without fields has the text `{}`. Neither is an expression.
 use Rattle.std.specs.Prelude.{ℕ, List, ◌++◌, codes}
 use Rattle.std.specs.Fmt.{decimal}
 use Rattle.postcard_schema.specs.Leaves.{leaf_name}
