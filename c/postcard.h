@@ -2,10 +2,11 @@
  * owns.
  *
  * Nothing here allocates or keeps a state of its own, and of the C library only memcpy, memmove and memset are needed. Each
- * function that isn't `inline` is proved against its contract (crates/postcard_c/src), which holds for all arguments.
+ * function that isn't `inline` is compiled or translated from code that is proved against its contract (crates/postcard_c/src),
+ * which holds for all arguments.
  * docs/C.md says what C owes in return; in short:
  *   - a pointer with a size points to that many bytes for as long as the call lasts, or the writer, reader or accumulator
- *     that was made over them; NULL is allowed with size 0, and nowhere else;
+ *     that was made over them; NULL is allowed with size 0, and `postcard_.._over` takes it with any size, as size 0;
  *   - what a call writes overlaps nothing else that it is given, and what it writes a value to is initialized;
  *   - a struct is made by its function `postcard_.._over`, and its fields are changed only as said below.
  *

@@ -16,7 +16,7 @@ pub struct Heartbeat {
     pub flags: u8,
 }
 
-/// Four fields: the record of docs/C.md.
+/// Four fields: the record of docs/C_COSTS.md.
 #[derive(Clone, Debug, PartialEq, Serialize, Deserialize)]
 pub struct Record<'a> {
     pub number: u32,

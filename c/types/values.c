@@ -116,7 +116,7 @@ static void failed_readers(void) {
     CHECK(Info_decode(&info, long_name, sizeof long_name) == POSTCARD_UNEXPECTED_END && info.name.text[0] == 0);
 }
 
-/* The record of docs/C.md, its sizes, and a frame. */
+/* The record of docs/C_COSTS.md, its sizes, and a frame. */
 static void records(void) {
     Record record = {42, 7, {true, 5}, {NULL, 0}};
     record.text = postcard_text("x");

@@ -51,7 +51,7 @@ typedef struct sensor_option_u8 { bool some; uint8_t value; } sensor_option_u8;
 postcard_status sensor_option_u8_put(postcard_writer *writer, const sensor_option_u8 *value);
 postcard_status sensor_option_u8_get(postcard_reader *reader, sensor_option_u8 *value);
 
-/* Four fields: the record of docs/C.md. */
+/* Four fields: the record of docs/C_COSTS.md. */
 typedef struct Record {
     uint32_t number;
     uint16_t short_;

@@ -30,7 +30,7 @@ Heartbeat._codec = _c.record(Heartbeat, ['uptime', 'battery', 'temp', 'flags'], 
 
 @_dataclass
 class Record(_p.Message):
-    """Four fields: the record of docs/C.md."""
+    """Four fields: the record of docs/C_COSTS.md."""
     __slots__ = ("number", "short", "byte", "text",)
     number: int
     short: int

@@ -13,9 +13,10 @@ use std::alloc::Global;
 /// remaining scratch, for the next call. The bytes after the value stay unread.
 ///
 /// A slice or a string that the value borrows lies in the scratch buffer, and uses up its length
-/// there. A `String` needs its length only while it is read, and uses up nothing. Numbers need no
-/// scratch. The scratch returned is the end of the scratch passed. Reading `n` bytes changes at
-/// most the first `n` bytes of the scratch passed.
+/// there. A `String` needs its length only while it is read, and uses up nothing. So does a float,
+/// which needs 4 or 8 bytes, and a `char`, which needs up to 4. Other numbers need no scratch. The
+/// scratch returned is the end of the scratch passed. Reading `n` bytes changes at most the first
+/// `n` bytes of the scratch passed.
 ///
 /// Over a steady reader, the call succeeds if the reader's bytes begin with an accepted encoding of
 /// the type and the scratch is no shorter. An allocation may still fail.
