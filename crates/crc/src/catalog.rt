@@ -3,8 +3,8 @@
 //!
 //! In the checked messages of [`laws`](crate::laws) and of `postcard` the checksum follows the
 //! message lowest byte first. Take an algorithm there whose `refin` and `refout` are true. It sees
-//! every burst of changed bits that is not longer than the checksum, also across the end of the
-//! message. The others are marked as not reflected.
+//! every burst of at most `width` changed bits in a row, also across the end of the message. The
+//! others are marked as not reflected.
 
 ghost use Rattle.std.specs.Prelude.{◌-◌, ◌^◌};
 ghost use Rattle.crc.specs.{HasOrderOf, IsListed};

@@ -82,9 +82,9 @@ pub fn from_bytes<'a, T: Deserialize<'a>, W: Width, I: Implementation<W>>(
 /// Decodes a value that, with its checksum after it, is the whole of `bytes`. The Rust crate has no
 /// such call: its `from_bytes_crc32` ignores what follows the checksum.
 ///
-/// Fails if `bytes` is a message and its checksum in which a run of bits was changed, no longer
-/// than the checksum (`refuses_damage`). The run may reach into the checksum. The algorithm's
-/// `refin` and `refout` must be true for that.
+/// Fails if `bytes` is a message and its checksum in which bits were changed within `width` bits in
+/// a row (`refuses_damage`). These may reach into the checksum. For that the digest must be new,
+/// `refin` and `refout` true, and the constant term of the generator 1, as in [`crc::catalog`].
 ///
 /// # Errors
 ///

@@ -18,7 +18,7 @@ pub record ReadsFrame {V : Type 0} (reads : Tree → Type 0) (value : Tree → V
   pub rest : List ℕ
   pub is_read : ReadsFront reads value content v rest
 
--- The bytes are a frame of no data: they are empty, or a group runs past their end.
+-- The bytes are no frame: they are empty, or a group runs past their end.
 abbrev pub HasNoData : List ℕ → Type 0
 HasNoData frame = (content : List ℕ) → Groups frame content → ⊥
 

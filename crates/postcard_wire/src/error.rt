@@ -41,7 +41,8 @@ pub enum Error {
     DeserializeBadOption,
     /// Never returned: see [`Error::DeserializeBadVarint`].
     DeserializeBadEnum,
-    /// A frame is empty, or one of its groups runs past its end.
+    /// A frame is empty, or one of its groups runs past its end. Also: a call with a checksum that
+    /// reads a whole message finds bytes after the checksum.
     DeserializeBadEncoding,
     /// The checksum after a message is not that of the message.
     DeserializeBadCrc,

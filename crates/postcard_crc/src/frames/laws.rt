@@ -12,8 +12,8 @@ pub fn message_arrives<T: DeserializeOwned>()
     ensures { MessageArrives T.shape }
 {}
 
-/// A frame whose data was damaged has no value as its answer, if the changed bits lie in a run no
-/// longer than the checksum. The algorithm's `refin` and `refout` are true.
+/// A frame whose data was damaged has no value as its answer, if the changed bits lie within
+/// `width` bits in a row. The algorithm's `refin` and `refout` are true.
 pub fn damage_refused<T: DeserializeOwned>()
     ensures { DamageRefused T.shape }
 {}
