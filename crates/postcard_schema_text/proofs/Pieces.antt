@@ -62,7 +62,8 @@ plain n s text h = inr (0, omega arith, (0, h))
 -- ---- Types without parts
 
 leaf_word : (n : ℕ) (l : Leaf) (word : List ℕ) → IsNameOf word l → AllPass is_of_word word → IsType (suc n) (schemas.Leaf l) word
-leaf_word n l word is pass = plain n (schemas.Leaf l) word (inl (names.Leaf l, word, is, (word, [], (pass, ([], word, no_blanks, refl, refl)), (refl, refl), sym (append-nil word))))
+leaf_word n l word is pass =
+    plain n (schemas.Leaf l) word (inl (names.Leaf l, word, is, (word, [], (pass, ([], word, no_blanks, refl, refl)), (refl, refl), sym (append-nil word))))
 
 integer_passes : (i : Integer) → AllPass is_of_word (integer_name i)
 integer_passes U8 = passes (codes "u8") refl
@@ -95,7 +96,8 @@ order_passes Big = passes (codes "BE") refl
 integer_text : (n : ℕ) (i : Integer) → IsType (suc n) (schemas.Leaf (leaves.Integer i)) (integer_name i)
 integer_text n i = leaf_word n (leaves.Integer i) (integer_name i) (integer_is i) (integer_passes i)
 
-fixed_text : (n : ℕ) (o : ByteOrder) (i : Integer) → LeafHasText n (leaves.Fixed o i) → IsType (suc n) (schemas.Leaf (leaves.Fixed o i)) (leaf_name (leaves.Fixed o i))
+fixed_text : (n : ℕ) (o : ByteOrder) (i : Integer) → LeafHasText n (leaves.Fixed o i)
+    → IsType (suc n) (schemas.Leaf (leaves.Fixed o i)) (leaf_name (leaves.Fixed o i))
 fixed_text zero o i h = absurd (omega (arith, h.0))
 fixed_text (suc n) o i h =
     plain (suc n) (schemas.Leaf (leaves.Fixed o i)) (leaf_name (leaves.Fixed o i)) (inl (

@@ -43,7 +43,8 @@ entry_bytes k v e = sym (ap (λ t. has_bytes (entry_of t (message_type (view v))
 
 -- ---- Types of one type or two
 
-option_printed : (n : ℕ) (b : Box Schema Global) → Printed n b.value → HasText n (view b.value) → IsType (suc n) (schemas.Option b) (named_text (option_view (view b.value)))
+option_printed : (n : ℕ) (b : Box Schema Global) → Printed n b.value → HasText n (view b.value)
+    → IsType (suc n) (schemas.Option b) (named_text (option_view (view b.value)))
 option_printed n b inner h =
     let t = named_text (view b.value) in
     plain n (schemas.Option b) (codes "Option<" ++ (t ++ codes ">")) (inl (
@@ -54,7 +55,8 @@ option_printed n b inner h =
           (opened 60 _ (t ++ (62 ∷ [])) (b.value, tt, (b, refl, refl), ended (IsType n b.value) 62 t (inner h))),
     ))
 
-seq_printed : (n : ℕ) (b : Box Schema Global) → Printed n b.value → HasText (suc n) (seq_view (view b.value)) → IsType (suc n) (schemas.Seq b) (named_text (seq_view (view b.value)))
+seq_printed : (n : ℕ) (b : Box Schema Global) → Printed n b.value → HasText (suc n) (seq_view (view b.value))
+    → IsType (suc n) (schemas.Seq b) (named_text (seq_view (view b.value)))
 seq_printed n b inner h =
     let t = named_text (view b.value) in
     plain n (schemas.Seq b) (91 ∷ (t ++ (93 ∷ []))) (inr (inl (opened 91 (IsListRest (IsType n) (schemas.Seq b)) (t ++ (93 ∷ []))
@@ -112,7 +114,8 @@ tuple_rest : (n : ℕ) (inner : (s : Schema) → Printed n s) (v : Vec Schema Gl
 tuple_rest n inner v [] e h = inl (v, refl, e, sign 41)
 tuple_rest n inner v (s ∷ ss) e h =
     let all = parts_row n inner s ss h in
-    inr (inr (v, refl, (all.row, 44 ∷ 41 ∷ [], subst (λ us. Separated (IsType n) 44 us all.row) (sym e) all.parts, inl (44 ∷ [], 41 ∷ [], sign 44, sign 41, refl), all.whole)))
+    let parts = subst (λ us. Separated (IsType n) 44 us all.row) (sym e) all.parts in
+    inr (inr (v, refl, (all.row, 44 ∷ 41 ∷ [], parts, inl (44 ∷ [], 41 ∷ [], sign 44, sign 41, refl), all.whole)))
 
 tuple_printed : (n : ℕ) (inner : (s : Schema) → Printed n s) (v : Vec Schema Global) → AllHaveText n (views v.items)
     → IsType (suc n) (schemas.Tuple v) (named_text (tuple_view (views v.items)))
@@ -165,18 +168,17 @@ fields_rest : (n : ℕ) (inner : (s : Schema) → Printed n s) (v : Vec (Named S
     → HasText (suc n) (struct_view (named_views ns)) → IsFieldsRest (IsType n) (schemas.Struct v) (named_fields_text (named_views ns))
 fields_rest n inner v [] e h = absurd h.0
 fields_rest n inner v (x ∷ xs) e h =
-    let all = fields_row n inner x xs h.0 h.1 in (
-      v,
-      refl,
-      subst NamesDiffer (sym e) (names_differ Field (x ∷ xs) h.0),
-      (all.row, 44 ∷ 125 ∷ [], subst (λ ys. Separated (IsField (IsType n)) 44 ys all.row) (sym e) all.items, (44 ∷ [], 125 ∷ [], inr (sign 44), sign 125, refl), all.whole),
-    )
+    let all = fields_row n inner x xs h.0 h.1 in
+    let differ = subst NamesDiffer (sym e) (names_differ Field (x ∷ xs) h.0) in
+    let items = subst (λ ys. Separated (IsField (IsType n)) 44 ys all.row) (sym e) all.items in
+    (v, refl, differ, (all.row, 44 ∷ 125 ∷ [], items, (44 ∷ [], 125 ∷ [], inr (sign 44), sign 125, refl), all.whole))
 
 struct_printed : (n : ℕ) (inner : (s : Schema) → Printed n s) (v : Vec (Named Schema) Global) → HasText (suc n) (struct_view (named_views v.items))
     → IsType (suc n) (schemas.Struct v) (named_text (struct_view (named_views v.items)))
 struct_printed n inner v h =
     let t = named_fields_text (named_views v.items) in
-    plain n (schemas.Struct v) (123 ∷ t) (inr (inr (inr (opened 123 (IsBracesRest (IsType n) (schemas.Struct v)) t (inl (fields_rest n inner v v.items refl h))))))
+    let rest = fields_rest n inner v v.items refl h in
+    plain n (schemas.Struct v) (123 ∷ t) (inr (inr (inr (opened 123 (IsBracesRest (IsType n) (schemas.Struct v)) t (inl rest)))))
 
 -- ---- Enums
 
@@ -201,27 +203,32 @@ variant_first x after =
 
 variants_row : (n : ℕ) (inner : (s : Schema) → Printed n s) (x : Named Schema) (xs : List (Named Schema)) → AreNames Variant (named_views (x ∷ xs))
     → ContentsHaveText n (named_views (x ∷ xs))
-    → (all : NamedRow (IsVariantText (IsType n)) 124 (x ∷ xs) (variant_text x ++ named_variants_text (named_views xs)) (41 ∷ [])) × (named_variants_text (named_views (x ∷ xs)) ≡ 124 ∷ (all.row ++ (41 ∷ [])))
+    → (all : NamedRow (IsVariantText (IsType n)) 124 (x ∷ xs) (variant_text x ++ named_variants_text (named_views xs)) (41 ∷ []))
+    × (named_variants_text (named_views (x ∷ xs)) ≡ 124 ∷ (all.row ++ (41 ∷ [])))
 variants_row n inner x [] names h =
     (record { row = variant_text x; items = variant_item n inner x [] names h.0; whole = refl }, ap (λ z. 124 ∷ z) (variant_first x (41 ∷ [])))
 variants_row n inner x (y ∷ ys) names h =
     let more = variants_row n inner y ys names.2 h.1 in
     let first = variant_text x in
+    let rest = opened 124 (Separated (IsVariantText (IsType n)) 124 (y ∷ ys)) more.0.row more.0.items in
     let is : first ++ named_variants_text (named_views (y ∷ ys)) ≡ (first ++ (124 ∷ more.0.row)) ++ (41 ∷ []) =
     ap (λ z. first ++ z) more.1 ∙ sym (append_assoc first (124 ∷ more.0.row) (41 ∷ [])) in (
       record {
         row = first ++ (124 ∷ more.0.row);
-        items = (first, 124 ∷ more.0.row, variant_item n inner x (y ∷ ys) names h.0, opened 124 (Separated (IsVariantText (IsType n)) 124 (y ∷ ys)) more.0.row more.0.items, refl);
+        items = (first, 124 ∷ more.0.row, variant_item n inner x (y ∷ ys) names h.0, rest, refl);
         whole = is;
       },
       ap (λ z. 124 ∷ z) (variant_first x (named_variants_text (named_views (y ∷ ys))) ∙ is),
     )
 
-enum_inner : (n : ℕ) (v : Vec (Named Schema) Global) (x : Named Schema) (xs : List (Named Schema)) (row : List ℕ) → v.items ≡ x ∷ xs → AreNames Variant (named_views (x ∷ xs))
+enum_inner : (n : ℕ) (v : Vec (Named Schema) Global) (x : Named Schema) (xs : List (Named Schema)) (row : List ℕ) → v.items ≡ x ∷ xs
+    → AreNames Variant (named_views (x ∷ xs))
     → Separated (IsVariantText (IsType n)) 124 (x ∷ xs) row → IsType (suc n) (schemas.Enum v) (124 ∷ row)
 unfolding IsType
 enum_inner n v x xs row e names items =
-    inl (v, refl, subst NamesDiffer (sym e) (names_differ Variant (x ∷ xs) names), (124 ∷ [], row, inl (sign 124), subst (λ ys. Separated (IsVariantText (IsType n)) 124 ys row) (sym e) items, refl))
+    let differ = subst NamesDiffer (sym e) (names_differ Variant (x ∷ xs) names) in
+    let all = subst (λ ys. Separated (IsVariantText (IsType n)) 124 ys row) (sym e) items in
+    inl (v, refl, differ, (124 ∷ [], row, inl (sign 124), all, refl))
 
 enum_rest : (n : ℕ) (inner : (s : Schema) → Printed n s) (v : Vec (Named Schema) Global) (ns : List (Named Schema)) → v.items ≡ ns
     → HasText (suc (suc n)) (enum_view (named_views ns)) → IsType (suc (suc n)) (schemas.Enum v) (named_text (enum_view (named_views ns)))
@@ -234,18 +241,23 @@ enum_rest n inner v (x ∷ xs) e h =
 
 -- ---- All types
 
-printed_once : (n : ℕ) (inner : (s : Schema) → Printed n s) (enums : (v : Vec (Named Schema) Global) → Printed (suc n) (schemas.Enum v)) (s : Schema) → Printed (suc n) s
+printed_once : (n : ℕ) (inner : (s : Schema) → Printed n s) (enums : (v : Vec (Named Schema) Global) → Printed (suc n) (schemas.Enum v)) (s : Schema)
+    → Printed (suc n) s
 printed_once n inner enums = ind-Schema (Printed (suc n)) (λ x y is. by x)
   where
     by : (x : Schema-F Schema) → Printed (suc n) (roll-Schema x)
-    by (layers.Leaf l) = subst (Printed (suc n)) (sym (schemas.rolls-Leaf l)) (from_view (suc n) (schemas.Leaf l) (leaf_view l) (view_leaf l) (leaf_text n l))
-    by (layers.Option b) = subst (Printed (suc n)) (sym (schemas.rolls-Option b)) (from_view (suc n) (schemas.Option b) (option_view (view b.value)) (view_option b) (option_printed n b (inner b.value)))
-    by (layers.Seq b) = subst (Printed (suc n)) (sym (schemas.rolls-Seq b)) (from_view (suc n) (schemas.Seq b) (seq_view (view b.value)) (view_seq b) (seq_printed n b (inner b.value)))
+    by (layers.Leaf l) = subst (Printed (suc n)) (sym (schemas.rolls-Leaf l))
+        (from_view (suc n) (schemas.Leaf l) (leaf_view l) (view_leaf l) (leaf_text n l))
+    by (layers.Option b) = subst (Printed (suc n)) (sym (schemas.rolls-Option b))
+        (from_view (suc n) (schemas.Option b) (option_view (view b.value)) (view_option b) (option_printed n b (inner b.value)))
+    by (layers.Seq b) = subst (Printed (suc n)) (sym (schemas.rolls-Seq b))
+        (from_view (suc n) (schemas.Seq b) (seq_view (view b.value)) (view_seq b) (seq_printed n b (inner b.value)))
     by (layers.Map k v) = subst (Printed (suc n)) (sym (schemas.rolls-Map k v))
         (from_view (suc n) (schemas.Map k v) (map_view (view k.value) (view v.value)) (view_map k v) (map_printed n k v (inner k.value) (inner v.value)))
     by (layers.Array b m) = subst (Printed (suc n)) (sym (schemas.rolls-Array b m))
         (from_view (suc n) (schemas.Array b m) (array_view m (view b.value)) (view_array b m) (array_printed n m b (inner b.value)))
-    by (layers.Tuple v) = subst (Printed (suc n)) (sym (schemas.rolls-Tuple v)) (from_view (suc n) (schemas.Tuple v) (tuple_view (views v.items)) (view_tuple v) (tuple_printed n inner v))
+    by (layers.Tuple v) = subst (Printed (suc n)) (sym (schemas.rolls-Tuple v))
+        (from_view (suc n) (schemas.Tuple v) (tuple_view (views v.items)) (view_tuple v) (tuple_printed n inner v))
     by (layers.Struct v) = subst (Printed (suc n)) (sym (schemas.rolls-Struct v))
         (from_view (suc n) (schemas.Struct v) (struct_view (named_views v.items)) (view_struct v) (struct_printed n inner v))
     by (layers.Enum v) = subst (Printed (suc n)) (sym (schemas.rolls-Enum v)) (enums v)

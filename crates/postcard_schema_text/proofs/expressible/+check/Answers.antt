@@ -53,22 +53,28 @@ check-returns-in-Array t c =
     rw (some, c.in-Array.is, view_array c.in-Array.element c.in-Array.count, sym c.deref-in-Array.ensures) c.check_array.ensures
 
 pub check_array-returns : goal.check_array-returns
-check_array-returns t c = let small : c.args.count < 2 ^ 64 = omega arith in match_mapped c.check_element.result _ _ _ _ (λ h. (small, h)) (λ e h. h) c.check_element.ensures
+check_array-returns t c =
+    let small : c.args.count < 2 ^ 64 = omega arith in
+    match_mapped c.check_element.result _ _ _ _ (λ h. (small, h)) (λ e h. h) c.check_element.ensures
 
 pub check_element-returns-then-not-has_bytes : goal.check_element-returns-then-not-has_bytes
-check_element-returns-then-not-has_bytes t c = inl (refl, ap has_bytes (typed c.args.element.now) ∙ sym c.has_bytes.ensures ∙ c.if-not-has_bytes.true)
+check_element-returns-then-not-has_bytes t c =
+    inl (refl, ap has_bytes (typed c.args.element.now) ∙ sym c.has_bytes.ensures ∙ c.if-not-has_bytes.true)
 
 pub check_element-returns : goal.check_element-returns
 check_element-returns t c =
-    let some : has_bytes (message_type (view c.args.element.now)) ≡ true = ap has_bytes (typed c.args.element.now) ∙ sym c.has_bytes.ensures ∙ c.if-not-has_bytes.false in
+    let some : has_bytes (message_type (view c.args.element.now)) ≡ true =
+    ap has_bytes (typed c.args.element.now) ∙ sym c.has_bytes.ensures ∙ c.if-not-has_bytes.false in
     match_mapped c.check.result _ _ _ _ (λ h. (some, h)) (λ e h. inr h) c.check.ensures
 
 -- Whether an entry has bytes, by the views of its key and its value.
-entry_bytes : (k v : Schema) (r : Bool) → r ≡ has_bytes (entry_of (type_of k) (type_of v)) → has_bytes (entry_of (message_type (view k)) (message_type (view v))) ≡ r
+entry_bytes : (k v : Schema) (r : Bool) → r ≡ has_bytes (entry_of (type_of k) (type_of v))
+    → has_bytes (entry_of (message_type (view k)) (message_type (view v))) ≡ r
 entry_bytes k v r e = ap (λ t. has_bytes (entry_of t (message_type (view v)))) (typed k) ∙ ap (λ t. has_bytes (entry_of (type_of k) t)) (typed v) ∙ sym e
 
 pub check_entry-returns-then-not-entry_has_bytes : goal.check_entry-returns-then-not-entry_has_bytes
-check_entry-returns-then-not-entry_has_bytes t c = inl (refl, entry_bytes c.args.key.now c.args.value.now c.entry_has_bytes.result c.entry_has_bytes.ensures ∙ c.if-not-entry_has_bytes.true)
+check_entry-returns-then-not-entry_has_bytes t c =
+    inl (refl, entry_bytes c.args.key.now c.args.value.now c.entry_has_bytes.result c.entry_has_bytes.ensures ∙ c.if-not-entry_has_bytes.true)
 
 pub check_entry-returns : goal.check_entry-returns
 check_entry-returns t c =
@@ -78,17 +84,23 @@ check_entry-returns t c =
 pub check_named-loop-part-preserved : goal.check_named-loop-part-preserved
 check_named-loop-part-preserved t c =
     let ns = c.deref-part-items.result.now in
+    let i = c.loop-part.part-index in
     let x = c.part-item.result in
     record {
-      texts = λ h. reached (λ ms. ContentsHaveText c.args.depth (named_views ms)) ns c.loop-part.part-index x (omega arith) c.part-item.is c.loop-part.invariant.texts (c.in_ok-check.ensures, h);
-      flaw = λ e h. reached (λ ms. SomeContentHasFlaw e c.args.depth (named_views ms)) ns c.loop-part.part-index x (omega arith) c.part-item.is (c.loop-part.invariant.flaw e) (inr h);
+      texts = λ h. reached (λ ms. ContentsHaveText c.args.depth (named_views ms)) ns i x (omega arith) c.part-item.is c.loop-part.invariant.texts
+          (c.in_ok-check.ensures, h);
+      flaw = λ e h. reached (λ ms. SomeContentHasFlaw e c.args.depth (named_views ms)) ns i x (omega arith) c.part-item.is (c.loop-part.invariant.flaw e)
+          (inr h);
     }
 
 pub check_parts-loop-part-preserved : goal.check_parts-loop-part-preserved
 check_parts-loop-part-preserved t c =
     let ss = c.deref-part-items.result.now in
+    let i = c.loop-part.part-index in
     let x = c.part-item.result in
     record {
-      texts = λ h. reached (λ us. AllHaveText c.args.depth (views us)) ss c.loop-part.part-index x (omega arith) c.part-item.is c.loop-part.invariant.texts (c.in_ok-check.ensures, h);
-      flaw = λ e h. reached (λ us. SomeHasFlaw e c.args.depth (views us)) ss c.loop-part.part-index x (omega arith) c.part-item.is (c.loop-part.invariant.flaw e) (inr h);
+      texts = λ h. reached (λ us. AllHaveText c.args.depth (views us)) ss i x (omega arith) c.part-item.is c.loop-part.invariant.texts
+          (c.in_ok-check.ensures, h);
+      flaw = λ e h. reached (λ us. SomeHasFlaw e c.args.depth (views us)) ss i x (omega arith) c.part-item.is (c.loop-part.invariant.flaw e)
+          (inr h);
     }

@@ -27,42 +27,50 @@ some_names kind (n ∷ ns) some h = h
 pub returns-then-not-is_name : goal.returns-then-not-is_name
 returns-then-not-is_name c =
     let ns = c.args.named.now.items in
+    let kind = c.args.kind in
+    let i = c.loop-i.i in
     let x = c.part-item.result in
-    let here : x ≡ get_or ns c.loop-i.i x = c.part-item.is ∙ ap (λ xs. get_or xs c.loop-i.i x) c.deref-part-items.ensures.value in
-    some_flaw Name c.args.kind ns (reached (λ ms. HasNameFlaw Name c.args.kind (named_views ms)) ns c.loop-i.i x (omega arith) here (c.loop-i.invariant.flaw Name)
+    let here : x ≡ get_or ns i x = c.part-item.is ∙ ap (λ xs. get_or xs i x) c.deref-part-items.ensures.value in
+    some_flaw Name kind ns (reached (λ ms. HasNameFlaw Name kind (named_views ms)) ns i x (omega arith) here (c.loop-i.invariant.flaw Name)
     (inl (refl, λ h. true≢false (sym (c.is_name.ensures.1 (rw c.deref.ensures h)) ∙ c.if-not-is_name.true))))
 
 pub returns-then-is_taken : goal.returns-then-is_taken
 returns-then-is_taken c =
     let ns = c.args.named.now.items in
+    let kind = c.args.kind in
+    let i = c.loop-i.i in
     let x = c.part-item.result in
-    let here : x ≡ get_or ns c.loop-i.i x = c.part-item.is ∙ ap (λ xs. get_or xs c.loop-i.i x) c.deref-part-items.ensures.value in
+    let here : x ≡ get_or ns i x = c.part-item.is ∙ ap (λ xs. get_or xs i x) c.deref-part-items.ensures.value in
     let ys = c.deref-in-loop-i.result.now in
-    let taken : IsTakenBy (named_views (drop (c.loop-i.i + 1) ns)) (string_bytes x.name) =
-    subst (λ ms. IsTakenBy (named_views ms) (string_bytes x.name)) (slice_end ys ns (c.loop-i.i + 1) c.deref-in-loop-i.ensures.value)
-    (subst (λ n. IsTakenBy (named_views (take (length ys - (c.loop-i.i + 1)) (drop (c.loop-i.i + 1) ys))) n) c.deref-in-loop-i-2.ensures c.if-is_taken.ensures) in
-    some_flaw NameTwice c.args.kind ns (reached (λ ms. HasNameFlaw NameTwice c.args.kind (named_views ms)) ns c.loop-i.i x (omega arith) here (c.loop-i.invariant.flaw NameTwice)
+    let taken : IsTakenBy (named_views (drop (i + 1) ns)) (string_bytes x.name) =
+    subst (λ ms. IsTakenBy (named_views ms) (string_bytes x.name)) (slice_end ys ns (i + 1) c.deref-in-loop-i.ensures.value)
+    (subst (λ n. IsTakenBy (named_views (take (length ys - (i + 1)) (drop (i + 1) ys))) n) c.deref-in-loop-i-2.ensures c.if-is_taken.ensures) in
+    some_flaw NameTwice kind ns (reached (λ ms. HasNameFlaw NameTwice kind (named_views ms)) ns i x (omega arith) here (c.loop-i.invariant.flaw NameTwice)
     (inr (inl (refl, taken))))
 
 pub loop-i-preserved : goal.loop-i-preserved
 loop-i-preserved c =
     let ns = c.args.named.now.items in
+    let kind = c.args.kind in
+    let i = c.loop-i.i in
     let x = c.part-item.result in
-    let here : x ≡ get_or ns c.loop-i.i x = c.part-item.is ∙ ap (λ xs. get_or xs c.loop-i.i x) c.deref-part-items.ensures.value in
+    let here : x ≡ get_or ns i x = c.part-item.is ∙ ap (λ xs. get_or xs i x) c.deref-part-items.ensures.value in
     let ys = c.deref-in-loop-i.result.now in
-    let free : IsFreeIn (named_views (drop (c.loop-i.i + 1) ns)) (string_bytes x.name) =
-    subst (λ ms. IsFreeIn (named_views ms) (string_bytes x.name)) (slice_end ys ns (c.loop-i.i + 1) c.deref-in-loop-i.ensures.value)
-    (subst (λ n. IsFreeIn (named_views (take (length ys - (c.loop-i.i + 1)) (drop (c.loop-i.i + 1) ys))) n) c.deref-in-loop-i-2.ensures c.if-is_taken.ensures) in
+    let free : IsFreeIn (named_views (drop (i + 1) ns)) (string_bytes x.name) =
+    subst (λ ms. IsFreeIn (named_views ms) (string_bytes x.name)) (slice_end ys ns (i + 1) c.deref-in-loop-i.ensures.value)
+    (subst (λ n. IsFreeIn (named_views (take (length ys - (i + 1)) (drop (i + 1) ys))) n) c.deref-in-loop-i-2.ensures c.if-is_taken.ensures) in
     record {
-      names = λ h. reached (λ ms. AreNames c.args.kind (named_views ms)) ns c.loop-i.i x (omega arith) here c.loop-i.invariant.names
+      names = λ h. reached (λ ms. AreNames kind (named_views ms)) ns i x (omega arith) here c.loop-i.invariant.names
           (rw (sym c.deref.ensures) (c.is_name.ensures.0 c.if-not-is_name.false), free, h);
-      flaw = λ e h. reached (λ ms. HasNameFlaw e c.args.kind (named_views ms)) ns c.loop-i.i x (omega arith) here (c.loop-i.invariant.flaw e) (inr (inr h));
+      flaw = λ e h. reached (λ ms. HasNameFlaw e kind (named_views ms)) ns i x (omega arith) here (c.loop-i.invariant.flaw e) (inr (inr h));
     }
 
 pub returns : goal.returns
 returns c =
     let ns = c.args.named.now.items in
     let same = c.deref-part-items.ensures.value in
-    let some : 0 < length ns = omega (arith, some_items c.args.named.now.len c.if-is_empty.ensures, c.deref-part-items.ensures.len, ap (λ ms. length ms) same) in
+    let some : 0 < length ns =
+    omega (arith, some_items c.args.named.now.len c.if-is_empty.ensures, c.deref-part-items.ensures.len, ap (λ ms. length ms) same) in
     some_names c.args.kind ns some
-    (reached_end (λ ms. AreNames c.args.kind (named_views ms)) ns c.loop-i.i (omega (arith, c.loop-i-test.false, ap (λ ms. length ms) same)) c.loop-i.invariant.names tt)
+    (reached_end (λ ms. AreNames c.args.kind (named_views ms)) ns c.loop-i.i
+    (omega (arith, c.loop-i-test.false, ap (λ ms. length ms) same)) c.loop-i.invariant.names tt)
