@@ -13,3 +13,6 @@ pub mod AngledSchemas
 pub mod LeftOfType
 pub mod LeftOfReference
 pub mod Refusals
+pub mod Reaches
+pub mod Pieces
+pub mod PrintedTypes

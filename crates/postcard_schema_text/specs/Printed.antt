@@ -1,9 +1,11 @@
--- The texts as which errors of type expressions are printed.
+-- The texts as which errors of type expressions are printed, and the reasons why a type has none.
 use Rattle.std.specs.Prelude.{ℕ, List, ◌++◌, codes}
 use Rattle.std.specs.Fmt.{decimal}
 use Rattle.postcard_schema_text.specs.declared.error.Problem.{Problem}
 use Rattle.postcard_schema_text.specs.declared.error.Problem.TheVariants.{TypeExpected, UnknownType, VariantExpected, FieldExpected, LifetimeExpected, AsciiExpected, NameTwice, CommaOrParenthesis, CommaOrBrace, SemicolonOrBracket, BracketExpected, CommaExpected, GreaterExpected, ColonExpected, ArrowExpected, BraceExpected, CountExpected, CountTooLarge, NoBytes, NumberExpected, TooDeep, EndExpected, OutOfMemory}
 use Rattle.postcard_schema_text.specs.declared.error.ExpressionError.{ExpressionError}
+use Rattle.postcard_schema_text.specs.declared.error.TextError.{TextError}
+use Rattle.postcard_schema_text.specs.declared.error.TextError.TheVariants as reasons
 
 -- The text of a problem, in ASCII.
 abbrev pub problem_text : Problem → List ℕ
@@ -34,3 +36,13 @@ problem_text OutOfMemory = codes "out of memory"
 -- The text of an error: the problem and its place, as in `unknown type at character 5`.
 abbrev pub expression_error_text : ExpressionError → List ℕ
 expression_error_text e = problem_text e.problem ++ (codes " at character " ++ decimal e.character)
+
+-- The text of the reason why a type has no expression.
+abbrev pub text_error_text : TextError → List ℕ
+text_error_text reasons.Name = codes "a type expression can't have this name"
+text_error_text reasons.NameTwice = codes "two fields or variants have one name"
+text_error_text reasons.Empty = codes "a struct has no fields, or an enum no variants"
+text_error_text reasons.NoBytes = codes "elements have no bytes"
+text_error_text reasons.NarrowNumber = codes "a number of 8 bits has a byte order"
+text_error_text reasons.TooDeep = codes "nested more than 64 deep"
+text_error_text reasons.OutOfMemory = codes "no memory for the text"

@@ -1,7 +1,7 @@
-//! The errors of reading a type expression.
+//! The errors of reading a type expression, and of writing one.
 
 ghost use Rattle.std.specs.Prelude.{Some};
-ghost use Rattle.postcard_schema_text.specs.{expression_error_text, problem_text};
+ghost use Rattle.postcard_schema_text.specs.{expression_error_text, problem_text, text_error_text};
 
 use std::fmt;
 
@@ -106,5 +106,44 @@ impl fmt::Display for ExpressionError {
 
     fn fmt<W: fmt::Write>(&self, f: &mut fmt::Formatter<W>) -> fmt::Result {
         write!(f, "{} at character {}", self.problem, self.character)
+    }
+}
+
+/// Why [`crate::schema_text`] has no type expression of a schema.
+#[derive(Clone, Copy, Debug, PartialEq, Eq)]
+pub enum TextError {
+    /// The name of a field or a variant is none of the grammar. Such a name has only letters and
+    /// digits of ASCII and `_`. A field's name isn't empty and begins with no digit. A variant's
+    /// name begins with a capital letter.
+    Name,
+    /// Two fields of a struct, or two variants of an enum, have the same name.
+    NameTwice,
+    /// A struct has no fields, or an enum has no variants.
+    Empty,
+    /// The elements of a list or an array, or the entries of a map, have no bytes.
+    NoBytes,
+    /// A number of 8 bits has a byte order, as in `LE<u8>`.
+    NarrowNumber,
+    /// The expression would be nested more than 64 deep in brackets. An option is a level of its
+    /// own, and an enum is two.
+    TooDeep,
+    /// An allocation failed.
+    OutOfMemory,
+}
+
+impl fmt::Display for TextError {
+    ghost output = { λ e. Some (text_error_text e) };
+
+    fn fmt<W: fmt::Write>(&self, f: &mut fmt::Formatter<W>) -> fmt::Result {
+        let text = match self {
+            TextError::Name => "a type expression can't have this name",
+            TextError::NameTwice => "two fields or variants have one name",
+            TextError::Empty => "a struct has no fields, or an enum no variants",
+            TextError::NoBytes => "elements have no bytes",
+            TextError::NarrowNumber => "a number of 8 bits has a byte order",
+            TextError::TooDeep => "nested more than 64 deep",
+            TextError::OutOfMemory => "no memory for the text",
+        };
+        f.write_str(text)
     }
 }

@@ -136,7 +136,7 @@ pub fn take_word<'a>(rest: &mut &'a [u8]) -> &'a [u8]
 }
 
 /// Returns whether a byte may be part of a word: a letter or a digit of ASCII, or `_`.
-fn is_of_word(byte: u8) -> bool
+pub(crate) fn is_of_word(byte: u8) -> bool
     ensures { result ≡ is_of_word_byte byte }
 {
     byte.is_ascii_alphanumeric() || byte == b'_'
