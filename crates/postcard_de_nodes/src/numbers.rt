@@ -41,8 +41,8 @@ pub fn count<F: Flavor>(flavor: &mut F) -> Result<usize>
     if first < 128 {
         return Ok(first as usize);
     }
-    // `Digits` adds in 128 bits, which takes longer. No counted loop, since most counts have one
-    // byte, so the compiler must not unroll the rest. A call would keep the source in memory.
+    // `Digits` would add in 128 bits, which takes longer. The loop isn't counted, so the compiler
+    // doesn't unroll it: most counts have one byte. A call would keep the source in memory.
     let mut value = u64::from(first % 128);
     let mut place: u32 = 1;
     loop {

@@ -62,7 +62,7 @@ impl Size {
         ensures refuses_by_buffer_full { IsOkUnless result Error.SerializeBufferFull }
         ensures unchanged { OnErr result (self.new ≡ self.old) }
     {
-        match self.count.checked_add(len) {
+        match len.checked_add(self.count) {
             Some(count) => {
                 self.count = count;
                 Ok(())
