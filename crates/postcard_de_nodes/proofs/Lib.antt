@@ -1,4 +1,5 @@
 pub mod VarintLoop
+pub mod CountLoop
 pub mod TextLemmas
 pub mod ShortTextLemmas
 pub mod CharLemmas

@@ -66,6 +66,13 @@ module _ {S : Type 0} {left : S → Left} {able : S → ℕ → Type 0}
       found (number_delimited w) n (so.front ++ b ∷ []) n low s refl (both_taken so.taken t)
       (laws.joins old now new so.leaves l)
 
+  -- If the first byte ends the number, the number was read.
+  pub first_reads : {w : ℕ} {old new : S} {b n : ℕ} → Takes left able old (b ∷ []) new →
+      may_leave old new → SpellsNum w n (b ∷ []) → n < 2 ^ w →
+      ReadsFrom (SpellsNum w) (Below w) Same never left able may_leave old (Ok n) new
+  first_reads {w} {b = b} {n = n} t l s low =
+      found (number_delimited w) n (b ∷ []) n low s refl t l
+
   -- If the source can't give the next digit, that is a reason to fail.
   pub number_ends : {w : ℕ} {digits : Digits} {old now new : S} {e : Error} →
       Within w left able may_leave old digits now → (able now 1 → ⊥) →

@@ -4,7 +4,11 @@ ghost use Rattle.postcard_de_nodes.specs.{IsWidth, ReadsNode, number_node};
 
 use postcard_de_flavors::Flavor;
 use postcard_wire::digits::Digits;
+use postcard_wire::varint::MAX_OF_LAST_BYTE_64;
 use postcard_wire::{Error, Result};
+
+/// The place of the tenth and last byte of a number of 64 bits, counted from 0.
+const LAST_PLACE_64: u32 = 9;
 
 /// Reads a number of `bits` bits, which must be 16, 32, 64 or 128: a varint of at most 3, 5, 10 or
 /// 19 bytes (wire format 1.0, "varint"). Padded varints are read too. Also fails with
@@ -33,17 +37,23 @@ pub fn number<F: Flavor>(flavor: &mut F, bits: u32) -> Result<u128>
 pub fn count<F: Flavor>(flavor: &mut F) -> Result<usize>
     ensures { ReadsNode F.Flavor (number_node 64) flavor.old result flavor.new }
 {
-    let mut digits = Digits::new();
     let first = flavor.pop()?;
-    if let Some(count) = digits.push(64, first)? {
-        return Ok(count as usize);
+    if first < 128 {
+        return Ok(first as usize);
     }
-    // No counted loop: most counts have one byte, so the compiler must not unroll the rest. A call
-    // would keep the source in memory.
+    // `Digits` would add in 128 bits, which takes longer. The loop isn't counted, so the compiler
+    // doesn't unroll it: most counts have one byte. A call would keep the source in memory.
+    let mut value = u64::from(first % 128);
+    let mut place: u32 = 1;
     loop {
         let byte = flavor.pop()?;
-        if let Some(count) = digits.push(64, byte)? {
-            return Ok(count as usize);
+        if place == LAST_PLACE_64 && byte > MAX_OF_LAST_BYTE_64 {
+            return Err(Error::DeserializeBadVarint);
         }
+        value += u64::from(byte % 128) << (7 * place);
+        if byte < 128 {
+            return Ok(value as usize);
+        }
+        place += 1;
     }
 }

@@ -1,14 +1,32 @@
 //! The flavor that only counts.
 
 ghost use Rattle.std.specs.Prelude.{◌≡◌, ◌+◌, ◌^◌, ◌<◌, ◌↔◌, [], ◌∷◌, ⊤, IsOk, OnOk, OnErr};
+ghost use Rattle.std.specs.Prelude.{length};
 ghost use Rattle.std.specs.Prelude.{IsOkUnless};
 ghost use Rattle.postcard_ser_flavors.specs.{AlwaysFinalized, CanCount, Counts, PushedIfRoom};
 ghost use Rattle.postcard_ser_flavors.specs.{Rises, count_lawful, digits};
 
 use crate::flavor::Flavor;
-use postcard_wire::varint::len_u64;
 use postcard_wire::{Error, Result};
 use std::marker::Model;
+
+/// The number of bytes of a varint, by the place of the number's highest bit. The lowest bit is at
+/// place 0.
+const LENGTHS: [u8; 64] = [
+    1, 1, 1, 1, 1, 1, 1, 2, 2, 2, 2, 2, 2, 2, 3, 3, 3, 3, 3, 3, 3, 4, 4, 4, 4, 4, 4, 4, 5, 5, 5, 5,
+    5, 5, 5, 6, 6, 6, 6, 6, 6, 6, 7, 7, 7, 7, 7, 7, 7, 8, 8, 8, 8, 8, 8, 8, 9, 9, 9, 9, 9, 9, 9,
+    10,
+];
+
+/// Returns the number of bytes of the varint of `n`, as `varint::len_u64` does. The table takes
+/// fewer instructions.
+#[inline(always)]
+#[tactic(auto, using(postcard_wire::proofs::Lengths::one_set, crate::proofs::VarintLengths::length_at))]
+fn varint_len(n: u64) -> usize
+    ensures { result ≡ length (digits n) }
+{
+    usize::from(LENGTHS[63 - (n | 1).leading_zeros() as usize])
+}
 
 /// Counts the bytes of a message and keeps none of them. Its output is their number. A push fails
 /// with `SerializeBufferFull` if and only if the count would pass `usize::MAX`, and changes nothing
@@ -44,7 +62,7 @@ impl Size {
         ensures refuses_by_buffer_full { IsOkUnless result Error.SerializeBufferFull }
         ensures unchanged { OnErr result (self.new ≡ self.old) }
     {
-        match self.count.checked_add(len) {
+        match len.checked_add(self.count) {
             Some(count) => {
                 self.count = count;
                 Ok(())
@@ -85,7 +103,7 @@ impl Flavor for Size {
     fn try_varint(&mut self, n: u64) -> Result<()>
         ensures { PushedIfRoom ⟦<Self as Flavor>⟧ self.old (digits n) result self.new }
     {
-        self.add(len_u64(n))
+        self.add(varint_len(n))
     }
 
     fn finalize(self) -> Result<usize>
