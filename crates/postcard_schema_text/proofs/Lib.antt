@@ -16,3 +16,5 @@ pub mod Refusals
 pub mod Reaches
 pub mod Pieces
 pub mod PrintedTypes
+pub mod NoText
+pub mod Excluded

@@ -3,6 +3,7 @@ use Rattle.std.specs.Prelude.{◌≡◌, ℕ, zero, suc, ◌^◌, ◌<◌, true,
 use Rattle.std.specs.List.{AllPass}
 use Rattle.postcard_schema.specs.declared.leaf.Leaf.{Leaf}
 use Rattle.postcard_schema.specs.declared.leaf.Leaf.TheVariants as leaves
+use Rattle.postcard_schema.specs.declared.schema.Schema.{Schema}
 use Rattle.postcard_schema.specs.Leaves.{size_of}
 use Rattle.postcard_schema.specs.Meaning.{entry_of, has_bytes}
 use Rattle.postcard_schema.specs.Views.{View, Views, NamedViews, leaf_view, option_view, seq_view, map_view, array_view, tuple_view, struct_view, enum_view, no_views, then_view, no_names, then_name, message_type}
@@ -10,6 +11,7 @@ use Rattle.postcard_schema_text.specs.declared.expressible.Kind.{Kind}
 use Rattle.postcard_schema_text.specs.declared.expressible.Kind.TheVariants as kinds
 use Rattle.postcard_schema_text.specs.declared.error.TextError.{TextError}
 use Rattle.postcard_schema_text.specs.declared.error.TextError.TheVariants.{Name, NameTwice, Empty, NoBytes, NarrowNumber, TooDeep, OutOfMemory}
+use Rattle.postcard_schema_text.specs.Grammar.{IsExpression}
 use Rattle.postcard_schema_text.specs.Text.{IsIdentifier, IsVariantName, is_of_word}
 
 -- A name that an expression may have, of a field or of a variant. All its bytes are those of a word.
@@ -134,3 +136,7 @@ IsExpressible v = HasText 64 v
 abbrev pub IsTextRefusal : TextError → View → Type 0
 IsTextRefusal OutOfMemory v = Unit {0}
 IsTextRefusal e v = HasFlaw e 64 v
+
+-- No text at all is an expression of the schema.
+abbrev pub HasNoExpression : Schema → Type 0
+HasNoExpression s = (text : List ℕ) → IsExpression s text → ⊥

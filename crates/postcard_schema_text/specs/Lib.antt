@@ -18,7 +18,7 @@ pub use Rattle.postcard_schema_text.specs.Angled.{IsAngledName, IsHolderOf, IsIn
 pub use Rattle.postcard_schema.specs.Named.{named_text}
 pub use Rattle.postcard_schema.specs.Views.{named_views, view, views}
 pub use Rattle.postcard_schema_text.specs.Expressible.{AllHaveText, AreSomeNames, ElementHasFlaw, ElementHasText}
-pub use Rattle.postcard_schema_text.specs.Expressible.{EntryHasFlaw, EntryHasText, HasFlaw, HasNamesFlaw, HasText}
+pub use Rattle.postcard_schema_text.specs.Expressible.{EntryHasFlaw, EntryHasText, HasFlaw, HasNamesFlaw, HasNoExpression, HasText}
 pub use Rattle.postcard_schema_text.specs.Expressible.{IsExpressible, IsFreeIn, IsNameFor, IsTakenBy, IsTextRefusal}
 pub use Rattle.postcard_schema_text.specs.Expressible.{LeafHasFlaw, LeafHasText, NamedHaveFlaw, NamedHaveText, SomeHasFlaw}
 pub use Rattle.postcard_schema_text.specs.Fronts.{Anything, IsNamed, IsRefusal, ReadsNamed, ReadsType}

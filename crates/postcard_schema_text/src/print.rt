@@ -1,8 +1,9 @@
 //! Writing the type expression of a schema: [`schema_text`].
 
-ghost use Rattle.std.specs.Prelude.{◌≡◌, ◌++◌, IfErr, IfOk, OnOk, string_bytes};
+ghost use Rattle.std.specs.Prelude.{◌≡◌, ◌⊎◌, ◌++◌, IfErr, IfOk, OnOk, string_bytes};
 ghost use Rattle.postcard_schema.specs.Views.{enum_view, struct_view, tuple_view};
-ghost use Rattle.postcard_schema_text.specs.{IsExpressible, IsExpression, IsTextRefusal};
+ghost use Rattle.postcard_schema_text.specs.{HasNoExpression, IsExpressible, IsExpression};
+ghost use Rattle.postcard_schema_text.specs.{IsTextRefusal};
 ghost use Rattle.postcard_schema_text.specs.{named_text, named_views, view, views};
 
 use crate::error::TextError;
@@ -39,6 +40,10 @@ pub fn schema_text(alloc: Global, schema: &Schema) -> Result<String, TextError>
     ensures expression { IfOk result (λ text. IsExpression schema.now (string_bytes text)) }
     ensures expressible { OnOk result (IsExpressible (view schema.now)) }
     ensures refused { IfErr result (λ e. IsTextRefusal e (view schema.now)) }
+    ensures inexpressible { IfErr result (λ e. (e ≡ TextError.OutOfMemory)
+        ⊎ (IsExpressible (view schema.now) → ⊥)) }
+    ensures no_expression { IfErr result (λ e. (e ≡ TextError.OutOfMemory)
+        ⊎ ((e ≡ TextError.TooDeep) ⊎ HasNoExpression schema.now)) }
 {
     check(schema, MAX_DEPTH)?;
     let mut text = String::new(alloc);
