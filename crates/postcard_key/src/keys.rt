@@ -56,7 +56,7 @@ pub fn key(schema: &Schema) -> u64
 /// changes it. It allocates nothing.
 ///
 /// Names are taken unchanged. If a name isn't an identifier, such as `a:u8,b`, two types may have
-/// the same text.
+/// the same text. `postcard_schema_text::schema_text` fails for such a name.
 ///
 /// # Examples
 ///

@@ -81,14 +81,16 @@ element_bytes s h = ap has_bytes (typed s) ∙ h
 entry_bytes : (k v : Schema) → has_bytes (entry_of (type_of k) (type_of v)) ≡ true → has_bytes (entry_of (message_type (view k)) (message_type (view v))) ≡ true
 entry_bytes k v h = ap (λ t. has_bytes (entry_of t (message_type (view v)))) (typed k) ∙ ap (λ t. has_bytes (entry_of (type_of k) t)) (typed v) ∙ h
 
-seq_of : (e : TextError) (s : Schema) (b : Box Schema Global) → (e ≡ TooDeep → ⊥) → s ≡ schemas.Seq b → has_bytes (type_of b.value) ≡ true → Flawless e (view b.value)
-    → Flawless e (view s)
-seq_of e s b deep is some none = seen e s (seq_view (view b.value)) (ap view is ∙ view_seq b) (no_seq e (view b.value) deep (element_bytes b.value some) none)
+seq_of : (e : TextError) (s : Schema) (b : Box Schema Global) → (e ≡ TooDeep → ⊥) → s ≡ schemas.Seq b → has_bytes (type_of b.value) ≡ true
+    → Flawless e (view b.value) → Flawless e (view s)
+seq_of e s b deep is some none =
+    seen e s (seq_view (view b.value)) (ap view is ∙ view_seq b) (no_seq e (view b.value) deep (element_bytes b.value some) none)
 
-map_of : (e : TextError) (s : Schema) (k v : Box Schema Global) → (e ≡ TooDeep → ⊥) → s ≡ schemas.Map k v → has_bytes (entry_of (type_of k.value) (type_of v.value)) ≡ true
-    → Flawless e (view k.value) → Flawless e (view v.value) → Flawless e (view s)
+map_of : (e : TextError) (s : Schema) (k v : Box Schema Global) → (e ≡ TooDeep → ⊥) → s ≡ schemas.Map k v
+    → has_bytes (entry_of (type_of k.value) (type_of v.value)) ≡ true → Flawless e (view k.value) → Flawless e (view v.value) → Flawless e (view s)
 map_of e s k v deep is some key value =
-    seen e s (map_view (view k.value) (view v.value)) (ap view is ∙ view_map k v) (no_map e (view k.value) (view v.value) deep (entry_bytes k.value v.value some) key value)
+    seen e s (map_view (view k.value) (view v.value)) (ap view is ∙ view_map k v)
+    (no_map e (view k.value) (view v.value) deep (entry_bytes k.value v.value some) key value)
 
 -- ---- Rows
 
@@ -97,18 +99,20 @@ abbrev Each : {A : Type 0} → (A → Type 0) → List A → Type 0
 Each Q [] = Unit {0}
 Each Q (x ∷ xs) = Q x × Each Q xs
 
-each_of : {A : Type 0} (P : A → List ℕ → Type 0) (Q : A → Type 0) (between : ℕ) → ((x : A) (text : List ℕ) → P x text → Q x) → (xs : List A) (text : List ℕ)
-    → Separated P between xs text → Each Q xs
+each_of : {A : Type 0} (P : A → List ℕ → Type 0) (Q : A → Type 0) (between : ℕ) → ((x : A) (text : List ℕ) → P x text → Q x) → (xs : List A)
+    (text : List ℕ) → Separated P between xs text → Each Q xs
 each_of P Q between each [] text h = absurd h
 each_of P Q between each (x ∷ []) text h = (each x text h, tt)
-each_of P Q between each (x ∷ y ∷ ys) text (front, back, first, (sign, rest, is, more, f), e) = (each x front first, each_of P Q between each (y ∷ ys) rest more)
+each_of P Q between each (x ∷ y ∷ ys) text (front, back, first, (sign, rest, is, more, f), e) =
+    (each x front first, each_of P Q between each (y ∷ ys) rest more)
 
 no_parts : (e : TextError) (ss : List Schema) → Each (λ s. Flawless e (view s)) ss → (n : ℕ) → SomeHasFlaw e n (views ss) → ⊥
 no_parts e [] each n h = h
 no_parts e (s ∷ ss) each n (inl h) = each.0 n h
 no_parts e (s ∷ ss) each n (inr h) = no_parts e ss each.1 n h
 
-tuple_of : (e : TextError) (s : Schema) (v : Vec Schema Global) → (e ≡ TooDeep → ⊥) → s ≡ schemas.Tuple v → Each (λ x. Flawless e (view x)) v.items → Flawless e (view s)
+tuple_of : (e : TextError) (s : Schema) (v : Vec Schema Global) → (e ≡ TooDeep → ⊥) → s ≡ schemas.Tuple v → Each (λ x. Flawless e (view x)) v.items
+    → Flawless e (view s)
 tuple_of e s v deep is each = seen e s (tuple_view (views v.items)) (ap view is ∙ view_tuple v) none
   where
     none : Flawless e (tuple_view (views v.items))
@@ -189,12 +193,14 @@ no_content e T level s text (inr (inr (v, is, none, f))) = tuple_of e s v level.
 no_variants : (e : TextError) (T : Schema → List ℕ → Type 0) → Level e T → (s : Schema) (text : List ℕ) → IsEnumText T s text → Flawless e (view s)
 no_variants e T level s text (v, is, differ, (lead, row, is_lead, items, f)) =
     seen e s (enum_view (named_views v.items)) (ap view is ∙ view_enum v)
-    (no_enum e v.items level.deep (filled (IsVariantText T) 124 v.items row items) (each_of (IsVariantText T) (IsFine e Variant) 124 fine v.items row items) differ)
+    (no_enum e v.items level.deep (filled (IsVariantText T) 124 v.items row items)
+    (each_of (IsVariantText T) (IsFine e Variant) 124 fine v.items row items) differ)
   where
     fine : (n : Named Schema) (variant : List ℕ) → IsVariantText T n variant → IsFine e Variant n
     fine n variant (name, (word, back, is_word, content, f)) = ((is_word.0, name), no_content e T level n.content back content)
 
-no_holder : (e : TextError) (h : Holder) (x s : Schema) → (e ≡ TooDeep → ⊥) → MayHold h (type_of x) → IsHolderOf h x s → Flawless e (view x) → Flawless e (view s)
+no_holder : (e : TextError) (h : Holder) (x s : Schema) → (e ≡ TooDeep → ⊥) → MayHold h (type_of x) → IsHolderOf h x s → Flawless e (view x)
+    → Flawless e (view s)
 no_holder e holders.Itself x s deep may is none = subst (λ y. Flawless e (view y)) (sym is) none
 no_holder e holders.List x s deep may (b, is, held) none =
     seq_of e s b deep is (subst (λ y. has_bytes (type_of y) ≡ true) (sym held) may) (subst (λ y. Flawless e (view y)) (sym held) none)
@@ -212,10 +218,11 @@ result_differ n m ok err =
     let other : HasOther (string_bytes n.name) m = λ same. omega (arith, ap length (sym err ∙ same ∙ ok)) in
     (All-cons (HasOther (string_bytes n.name)) m [] other (All-nil (HasOther (string_bytes n.name))), (All-nil (HasOther (string_bytes m.name)), tt))
 
-no_pair : (e : TextError) (p : Pair) (x y s : Schema) → (e ≡ TooDeep → ⊥) → MayPair p (type_of x) (type_of y) → IsPairOf p x y s → Flawless e (view x) → Flawless e (view y)
-    → Flawless e (view s)
+no_pair : (e : TextError) (p : Pair) (x y s : Schema) → (e ≡ TooDeep → ⊥) → MayPair p (type_of x) (type_of y) → IsPairOf p x y s
+    → Flawless e (view x) → Flawless e (view y) → Flawless e (view s)
 no_pair e pairs.Map x y s deep may (b, c, is, key, value) first second =
-    map_of e s b c deep is (subst (λ z. has_bytes (entry_of (type_of z) (type_of c.value)) ≡ true) (sym key) (subst (λ z. has_bytes (entry_of (type_of x) (type_of z)) ≡ true) (sym value) may))
+    let some = subst (λ z. has_bytes (entry_of (type_of x) (type_of z)) ≡ true) (sym value) may in
+    map_of e s b c deep is (subst (λ z. has_bytes (entry_of (type_of z) (type_of c.value)) ≡ true) (sym key) some)
     (subst (λ z. Flawless e (view z)) (sym key) first) (subst (λ z. Flawless e (view z)) (sym value) second)
 no_pair e pairs.Result x y s deep may (v, n, m, is, items, ok, err) first second =
     seen e s (enum_view (named_views v.items)) (ap view is ∙ view_enum v) (subst (λ ns. Flawless e (enum_view (named_views ns))) (sym items)
@@ -224,12 +231,13 @@ no_pair e pairs.Result x y s deep may (v, n, m, is, items, ok, err) first second
       ((subst (IsNameFor Variant) (sym err.0) (passes (codes "Err") refl, (omega arith, refl)), subst (λ z. Flawless e (view z)) (sym err.1) second), tt),
     ) (result_differ n m ok.0 err.0)))
 
-no_named : (e : TextError) (T : Schema → List ℕ → Type 0) → Level e T → (name : TypeName) (word : List ℕ) (s : Schema) (text : List ℕ) → IsTypeName word name
-    → IsNamedRest T name s text → Flawless e (view s)
+no_named : (e : TextError) (T : Schema → List ℕ → Type 0) → Level e T → (name : TypeName) (word : List ℕ) (s : Schema) (text : List ℕ)
+    → IsTypeName word name → IsNamedRest T name s text → Flawless e (view s)
 no_named e T level (names.Leaf l) word s text is (same, none) = seen e s (leaf_view l) (ap view same ∙ view_leaf l) (no_leaf e l word level.deep is)
 no_named e T level (names.Angled (kinds.Holder h)) word s text is (start, rest, sign, (x, may, holder, (front, back, inner, close, g)), f) =
     no_holder e h x s level.deep may holder (level.none x front inner)
-no_named e T level (names.Angled (kinds.Pair p)) word s text is (start, rest, sign, (x, y, may, pair, (a, b, (c, d, first, comma, g), (i, j, second, close, h), k)), f) =
+no_named e T level (names.Angled (kinds.Pair p)) word s text is
+    (start, rest, sign, (x, y, may, pair, (a, b, (c, d, first, comma, g), (i, j, second, close, h), k)), f) =
     no_pair e p x y s level.deep may pair (level.none x c first) (level.none y i second)
 
 no_plain : (e : TextError) (T : Schema → List ℕ → Type 0) → Level e T → (s : Schema) (text : List ℕ) → IsPlain T s text → Flawless e (view s)
@@ -241,15 +249,18 @@ no_plain e T level s text (inr (inl (start, rest, sign, inr (b, n, is, some, (fr
     (no_array e n (view b.value) level.deep (element_bytes b.value some) (level.none b.value front inner))
 no_plain e T level s text (inr (inr (inl (start, rest, sign, tuple, f)))) = no_tuple e T level s rest tuple
 no_plain e T level s text (inr (inr (inr (start, rest, sign, inl fields, f)))) = no_fields e T level s rest fields
-no_plain e T level s text (inr (inr (inr (start, rest, sign, inr (x, y, may, pair, (a, b, (c, d, first, arrow, g), (l, m, sharp, (i, j, second, close, h), n), k)), f)))) =
+no_plain e T level s text
+    (inr (inr (inr (start, rest, sign, inr (x, y, may, pair, (a, b, (c, d, first, arrow, g), (l, m, sharp, (i, j, second, close, h), n), k)), f)))) =
     no_pair e pairs.Map x y s level.deep may pair (level.none x c first) (level.none y i second)
 
 no_behind : (e : TextError) (T : Schema → List ℕ → Type 0) → Level e T → (n : ℕ) (s : Schema) (text : List ℕ) → IsBehind n T s text → Flawless e (view s)
 no_behind e T level zero s text h = no_plain e T level s text h
 no_behind e T level (suc n) s text (front, rest, sign, inl h, f) = no_behind e T level n s rest h
-no_behind e T level (suc n) s text (front, rest, sign, inr (quote, after, mark, (name, named, (word, back, is_word, (ends, h), i)), g), f) = no_behind e T level n s back h
+no_behind e T level (suc n) s text (front, rest, sign, inr (quote, after, mark, (name, named, (word, back, is_word, (ends, h), i)), g), f) =
+    no_behind e T level n s back h
 
-no_options : (e : TextError) (T : Schema → List ℕ → Type 0) → Level e T → (n : ℕ) (s : Schema) (text : List ℕ) → IsOptions n (IsReferred T) s text → Flawless e (view s)
+no_options : (e : TextError) (T : Schema → List ℕ → Type 0) → Level e T → (n : ℕ) (s : Schema) (text : List ℕ) → IsOptions n (IsReferred T) s text
+    → Flawless e (view s)
 no_options e T level zero s text (n, h) = no_behind e T level n s text h
 no_options e T level (suc n) s text (b, is, (front, back, h, sign, f)) =
     seen e s (option_view (view b.value)) (ap view is ∙ view_option b) (no_option e (view b.value) level.deep (no_options e T level n b.value front h))

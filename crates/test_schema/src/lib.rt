@@ -20,3 +20,5 @@ mod messages;
 mod printed;
 #[cfg(test)]
 mod sizes;
+#[cfg(test)]
+mod texts;

@@ -5,4 +5,4 @@ use Rattle.postcard_schema_text.proofs.PrintedTypes.{printed_expression}
 use Rattle.postcard_schema_text.proofs.laws.text_denotes.Goals as goal
 
 pub returns : goal.returns
-returns c s h = printed_expression s (named_text (view s)) h refl
+returns c = record { expression = λ s h. printed_expression s (named_text (view s)) h refl }
