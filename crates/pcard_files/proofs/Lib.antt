@@ -1,3 +1,4 @@
+pub mod BracketLemmas
 pub mod CallLemmas
 pub mod ColonLemmas
 pub mod FileLemmas

@@ -1,6 +1,7 @@
 pub mod Fault
 pub mod SchemaFile
 pub mod TypeName
+pub mod Written
 pub mod Operands
 pub mod Call
 pub mod Input
@@ -8,6 +9,9 @@ pub mod Input
 pub use Rattle.pcard_call.specs.declared.verb.Verb.{Verb}
 pub use Rattle.pcard_call.specs.{IsCall, given_of}
 pub use Rattle.postcard_cobs.specs.Groups.{EndsFrame}
+pub use Rattle.postcard_schema.specs.Views.{view}
+pub use Rattle.postcard_schema_text.specs.Grammar.{IsExpression}
+pub use Rattle.schema_text_stub.specs.{IsTextRefusal}
 pub use Rattle.postcard_schema_message.specs.declared.error.Problem.TheVariants.{OutOfMemory as NodesMemory}
 pub use Rattle.pcard_files.specs.Call.{AnswersNamed, NamesType}
 pub use Rattle.pcard_files.specs.Fault.{Tells, fault_status, fault_text, schema_fault_text}
@@ -18,6 +22,7 @@ pub use Rattle.pcard_files.specs.SchemaFile.{Describes, DescribesNone, IsMessage
 pub use Rattle.pcard_files.specs.SchemaFile.{IsUnframed, LooksLikeText}
 pub use Rattle.pcard_files.specs.TypeName.{HasExpression, IsFaultBy, IsFaultIn, IsFaultOf, IsNameWord}
 pub use Rattle.pcard_files.specs.TypeName.{IsTextFault, IsTextIn, bytes_of}
+pub use Rattle.pcard_files.specs.Written.{is_word}
 pub use Rattle.pcard_files.specs.declared.fault.SchemaFault.TheVariants.{Nodes}
 pub use Rattle.pcard_files.specs.declared.fault.TypeFault.TheVariants.{OutOfMemory as NoMemory, TooLong}
 pub use Rattle.pcard_files.specs.declared.files.ReadError.TheVariants.{Failed}

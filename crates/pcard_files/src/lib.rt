@@ -13,6 +13,7 @@ pub mod input;
 pub mod operand;
 pub mod schema_file;
 pub mod type_name;
+mod written;
 
 pub use fault::{SchemaFault, TypeFault};
 pub use files::{Disk, DiskFile, Files, ReadError};

@@ -8,9 +8,10 @@ ghost use Rattle.pcard_files.specs.{IsTextIn, IsTextFault, TooLong, bytes_of};
 use crate::fault::TypeFault;
 use crate::files::{Files, ReadError};
 use crate::schema_file::schema_in;
+use crate::written::written;
 use postcard_schema_text::Problem;
 use postcard_source::{FileError, FileProblem, expression};
-use schema_text_stub::{TextError, schema_text};
+use schema_text_stub::TextError;
 use std::alloc::Global;
 
 /// The most bytes of a file of types.
@@ -56,7 +57,7 @@ impl<'a> TypeName<'a> {
     ///
     /// Fails with `Unreadable` if the file can't be read, and with `TooLong`. With a name it fails
     /// with `NoText`, and with `Wrong` if [`expression`] refuses the name. Without one it fails as
-    /// [`schema_in`] does, and with `NoExpression` if [`schema_text`] refuses the schema. Fails with
+    /// [`schema_in`] does, and with `NoExpression` if the schema has no expression. Fails with
     /// `OutOfMemory` if an allocation fails.
     pub fn expression<F: Files>(self, alloc: Global, files: &F) -> Result<String, TypeFault>
         ensures found { IfOk result (λ text. HasExpression (F.gives files.now)
@@ -118,7 +119,7 @@ fn described(alloc: Global, bytes: &[u8]) -> Result<String, TypeFault>
     ensures refused { IfErr result (IsFaultIn bytes.now None) }
 {
     let schema = schema_in(alloc, bytes)?;
-    match schema_text(alloc, &schema) {
+    match written(alloc, &schema) {
         Ok(text) => Ok(text),
         Err(error) => Err(fault_of_text(error)),
     }
