@@ -18,7 +18,8 @@ pub enum NoType<'a> {
 }
 
 /// Returns the type that an argument stands for. `@FILE:NAME` stands for the type that FILE
-/// declares with this name. Any other argument is a type expression.
+/// declares with this name, and `@FILE` for the type that FILE has as a schema message. Any other
+/// argument is a type expression.
 ///
 /// # Errors
 ///

@@ -1,5 +1,5 @@
 -- Where the operands of a call begin, and so at which index its word TYPE is. Words are one call only, so TYPE is at one index.
-use Rattle.std.proofs.Common.{◌≡◌, ℕ, ◌+◌, ◌<◌, ◌≤◌, true, false, Some, List, [], ◌∷◌, length, map, sym, ap, subst, ◌∙◌, arith, true≢false}
+use Rattle.std.proofs.Common.{◌≡◌, ℕ, ◌+◌, ◌<◌, ◌≤◌, true, false, Option, Some, List, [], ◌∷◌, length, map, sym, ap, subst, ◌∙◌, arith, true≢false}
 use Rattle.std.specs.Prelude.{slice_get, ◌==◌}
 use Rattle.std.proofs.Math.Dec.{eqb-suc-zero}
 use Rattle.std.proofs.lemmas.Option.{same_Some}
@@ -45,9 +45,10 @@ without_operands f [] words verb given only none i found =
     omega (arith, same, begin, within)
 without_operands f (x ∷ xs) words verb given only none i found = absurd (true≢false (sym none ∙ eqb-suc-zero (length xs)))
 
--- If the word TYPE isn't `@FILE:NAME`, no word of the call names a type in a file.
+-- If the word TYPE names no type in a file, no word of the call does.
 pub no_name : (words : Words) (index : ℕ) (w : List ℕ) → ((j : ℕ) → IsTypeAt words j → j ≡ index) → slice_get words index ≡ Some w
-    → ((file name : List ℕ) → IsNameWord w file name → ⊥) → (i : ℕ) (file name : List ℕ) → NamesType words i file name → ⊥
+    → ((file : List ℕ) (name : Option (List ℕ)) → IsNameWord w file name → ⊥)
+    → (i : ℕ) (file : List ℕ) (name : Option (List ℕ)) → NamesType words i file name → ⊥
 no_name words index w one is none i file name (type_at, (word, at, named)) =
     let same : word ≡ w = same_Some word w (sym at ∙ ap (slice_get words) (one i type_at) ∙ is) in
     none file name (subst (λ v. IsNameWord v file name) same named)

@@ -1,9 +1,9 @@
 //! The call of some words, in which TYPE may be the name of a type in a file.
 
-ghost use Rattle.std.specs.Prelude.{◌≡◌, ◌<◌, ◌≤◌, ℕ, List, length, map, string_bytes, IfSome};
-ghost use Rattle.std.specs.Prelude.{IfNone};
+ghost use Rattle.std.specs.Prelude.{◌≡◌, ◌<◌, ◌≤◌, ℕ, List, Option, length, map, string_bytes};
+ghost use Rattle.std.specs.Prelude.{IfNone, IfSome};
 ghost use Rattle.pcard_calls.specs.{READS};
-ghost use Rattle.pcard_files.specs.{AnswersNamed, NamesType, Tells};
+ghost use Rattle.pcard_files.specs.{AnswersNamed, NamesType, Tells, bytes_of};
 
 use crate::fault::TypeFault;
 use crate::files::Files;
@@ -18,8 +18,8 @@ use std::io::Write;
 const UNWRITTEN: u8 = 3;
 
 /// Runs the call of these words, which come after the program's name, as [`pcard_calls::run`] does,
-/// and returns the exit status. If TYPE is `@FILE:NAME`, it is replaced by an expression of the type
-/// that the file declares with this name.
+/// and returns the exit status. If TYPE is `@FILE:NAME` or `@FILE`, it is replaced by an expression
+/// of the type that the file declares with this name, or has as a schema message.
 ///
 /// If there is no such type, a line on `errors` says why, no input is read, and nothing is printed to
 /// `output`. The status is then 1 if memory runs out, 3 if the line can't be written, and else 2.
@@ -65,8 +65,8 @@ pub fn tell<E: Write>(file: &str, fault: TypeFault, errors: &mut E) -> u8
 /// none.
 fn named_type(words: &[String]) -> Option<(usize, TypeName<'_>)>
     ensures found { IfSome result (λ found. NamesType (map string_bytes words.now)
-        found.0 found.1.file.now found.1.name.now) }
-    ensures none { IfNone result ((i : ℕ) (file name : List ℕ)
+        found.0 found.1.file.now (bytes_of found.1.name)) }
+    ensures none { IfNone result ((i : ℕ) (file : List ℕ) (name : Option (List ℕ))
         → NamesType (map string_bytes words.now) i file name → ⊥) }
     ensures inside { IfSome result (λ found. found.0 < length words.now) }
 {

@@ -41,8 +41,8 @@ expression_error_text e = problem_text e.problem ++ (codes " at character " ++ d
 abbrev pub text_error_text : TextError → List ℕ
 text_error_text reasons.Name = codes "a type expression can't have this name"
 text_error_text reasons.NameTwice = codes "two fields or variants have one name"
-text_error_text reasons.Empty = codes "a struct has no fields, or an enum no variants"
-text_error_text reasons.NoBytes = codes "elements have no bytes"
-text_error_text reasons.NarrowNumber = codes "a number of 8 bits has a byte order"
-text_error_text reasons.TooDeep = codes "nested more than 64 deep"
-text_error_text reasons.OutOfMemory = codes "no memory for the text"
+text_error_text reasons.Empty = codes "a struct without fields or an enum without variants"
+text_error_text reasons.NoBytes = codes "elements of this type have no bytes"
+text_error_text reasons.NarrowNumber = codes "LE and BE hold u16 to u128 or i16 to i128"
+text_error_text reasons.TooDeep = codes "nested too deeply"
+text_error_text reasons.OutOfMemory = codes "out of memory"

@@ -138,11 +138,11 @@ impl fmt::Display for TextError {
         let text = match self {
             TextError::Name => "a type expression can't have this name",
             TextError::NameTwice => "two fields or variants have one name",
-            TextError::Empty => "a struct has no fields, or an enum no variants",
-            TextError::NoBytes => "elements have no bytes",
-            TextError::NarrowNumber => "a number of 8 bits has a byte order",
-            TextError::TooDeep => "nested more than 64 deep",
-            TextError::OutOfMemory => "no memory for the text",
+            TextError::Empty => "a struct without fields or an enum without variants",
+            TextError::NoBytes => "elements of this type have no bytes",
+            TextError::NarrowNumber => "LE and BE hold u16 to u128 or i16 to i128",
+            TextError::TooDeep => "nested too deeply",
+            TextError::OutOfMemory => "out of memory",
         };
         f.write_str(text)
     }

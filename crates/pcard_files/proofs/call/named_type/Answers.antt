@@ -1,5 +1,5 @@
 use Rattle.std.proofs.Common.{map, string_bytes, subst, sym, Global}
-use Rattle.pcard_files.specs.TypeName.{IsNameWord}
+use Rattle.pcard_files.specs.TypeName.{IsNameWord, bytes_of}
 use Rattle.pcard_files.proofs.CallLemmas.{no_name}
 use Rattle.pcard_files.proofs.WordLemmas.{word_at}
 use Rattle.pcard_files.proofs.call.named_type.Goals as goal
@@ -12,7 +12,7 @@ returns-in-Some-from_word-clause-found c =
     let w = c.index-words-index.result in
     let at = word_at (string_bytes {Z = Global}) c.args.words.now c.in-Some.index w c.in-Some.ensures.inside c.index-words-index.is in
     let name = c.in-Some-from_word.name in
-    (c.in-Some.ensures.found, (string_bytes w, at, subst (λ v. IsNameWord v name.file.now name.name.now) c.as_str.ensures.value c.in-Some-from_word.ensures.found))
+    (c.in-Some.ensures.found, (string_bytes w, at, subst (λ v. IsNameWord v name.file.now (bytes_of name.name)) c.as_str.ensures.value c.in-Some-from_word.ensures.found))
 
 pub returns-in-None-clause-none : goal.returns-in-None-clause-none
 returns-in-None-clause-none c =

@@ -1,6 +1,7 @@
 use Rattle.std.proofs.Common.{inl, inr, refl, ap, map, string_bytes, Global}
 use Rattle.std.specs.Prelude.{slice_set}
 use Rattle.std.proofs.lemmas.List.{map-set}
+use Rattle.pcard_files.specs.TypeName.{bytes_of}
 use Rattle.pcard_files.proofs.WordLemmas.{told_status}
 use Rattle.pcard_files.proofs.call.run.Goals as goal
 
@@ -22,10 +23,10 @@ returns-in-Ok-clause-answers g c = inl (
   inr (record {
     index = c.in-Some.index;
     file = c.in-Some.name.file.now;
-    name = c.in-Some.name.name.now;
+    name = bytes_of c.in-Some.name.name;
     text = string_bytes c.in-Ok.text;
     names = c.in-Some.ensures.found;
-    declared = c.in-Ok.ensures.declared;
+    expression = c.in-Ok.ensures.found;
     are = map-set (string_bytes {Z = Global}) c.args.words.now c.in-Some.index c.in-Ok.text;
   }),
   record {
@@ -40,7 +41,7 @@ pub returns-in-Err-clause-answers : goal.returns-in-Err-clause-answers
 returns-in-Err-clause-answers g c = inr (record {
   index = c.in-Some.index;
   file = c.in-Some.name.file.now;
-  name = c.in-Some.name.name.now;
+  name = bytes_of c.in-Some.name.name;
   fault = c.in-Err.fault;
   names = c.in-Some.ensures.found;
   refused = c.in-Err.ensures.refused;
