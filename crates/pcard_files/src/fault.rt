@@ -4,8 +4,8 @@ ghost use Rattle.std.specs.Prelude.{◌≡◌, Some};
 ghost use Rattle.pcard_files.specs.{NoMemory, fault_status, fault_text, schema_fault_text};
 
 use postcard_schema_message::Problem;
-use postcard_source::FileError;
 use postcard_schema_text::TextError;
+use postcard_source::FileError;
 use std::alloc::AllocError;
 use std::fmt;
 

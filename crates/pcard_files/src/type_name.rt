@@ -9,9 +9,8 @@ use crate::fault::TypeFault;
 use crate::files::{Files, ReadError};
 use crate::schema_file::schema_in;
 use crate::written::written;
-use postcard_schema_text::Problem;
+use postcard_schema_text::{Problem, TextError};
 use postcard_source::{FileError, FileProblem, expression};
-use postcard_schema_text::TextError;
 use std::alloc::Global;
 
 /// The most bytes of a file of types.

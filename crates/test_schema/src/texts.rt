@@ -48,15 +48,15 @@ const REASONS: [(TextError, &str); 7] = [
     (TextError::NameTwice, "two fields or variants have one name"),
     (
         TextError::Empty,
-        "a struct has no fields, or an enum no variants",
+        "a struct without fields or an enum without variants",
     ),
-    (TextError::NoBytes, "elements have no bytes"),
+    (TextError::NoBytes, "elements of this type have no bytes"),
     (
         TextError::NarrowNumber,
-        "a number of 8 bits has a byte order",
+        "LE and BE hold u16 to u128 or i16 to i128",
     ),
-    (TextError::TooDeep, "nested more than 64 deep"),
-    (TextError::OutOfMemory, "no memory for the text"),
+    (TextError::TooDeep, "nested too deeply"),
+    (TextError::OutOfMemory, "out of memory"),
 ];
 
 fn has_text(rt: &(impl Abort + AllocGlobal), schema: &Schema, wanted: &str) {
