@@ -34,7 +34,7 @@ abbrev pub AreNames : Kind → NamedViews → Type 0
 AreNames kind no_names = Unit {0}
 AreNames kind (then_name name v ns) = IsNameFor kind name × IsFreeIn ns name × AreNames kind ns
 
--- A name is the reason e: no expression may have it, or it is that of a later field or variant, too.
+-- A name is the reason e. The reason is `Name` if no expression may have the name, and `NameTwice` if a later field or variant has it, too.
 abbrev pub HasNameFlaw : TextError → Kind → NamedViews → Type 0
 HasNameFlaw e kind no_names = ⊥
 HasNameFlaw e kind (then_name name v ns) = ((e ≡ Name) × (IsNameFor kind name → ⊥)) ⊎ (((e ≡ NameTwice) × IsTakenBy ns name) ⊎ HasNameFlaw e kind ns)
@@ -44,7 +44,7 @@ abbrev pub AreSomeNames : Kind → NamedViews → Type 0
 AreSomeNames kind no_names = ⊥
 AreSomeNames kind (then_name name v ns) = AreNames kind (then_name name v ns)
 
--- There is none, or a name is the reason e.
+-- Why not, for the reason e. The reason is `Empty` if there is no field or variant.
 abbrev pub HasNamesFlaw : TextError → Kind → NamedViews → Type 0
 HasNamesFlaw e kind no_names = e ≡ Empty
 HasNamesFlaw e kind (then_name name v ns) = HasNameFlaw e kind (then_name name v ns)
@@ -54,7 +54,7 @@ abbrev pub LeafHasText : ℕ → Leaf → Type 0
 LeafHasText n (leaves.Fixed order integer) = (0 < n) × (1 < size_of integer)
 LeafHasText n l = Unit {0}
 
--- Why it has none.
+-- Why it has none, for the reason e.
 abbrev pub LeafHasFlaw : TextError → ℕ → Leaf → Type 0
 LeafHasFlaw e n (leaves.Fixed order integer) = ((e ≡ TooDeep) × (n ≡ 0)) ⊎ ((e ≡ NarrowNumber) × (size_of integer ≡ 1))
 LeafHasFlaw e n l = ⊥
@@ -82,7 +82,7 @@ abbrev mutual
   ContentsHaveText n no_names = Unit {0}
   ContentsHaveText n (then_name name v ns) = HasText n v × ContentsHaveText n ns
 
--- The type, or a type in it, is the reason e why it has no such expression. Types nested more than n deep are the reason `TooDeep`.
+-- Why the type has no such expression: the type, or a type in it, is the reason e. The reason is `TooDeep` at a type nested more than n deep.
 abbrev mutual
   pub HasFlaw : TextError → ℕ → View → Type 0
   HasFlaw e zero v = e ≡ TooDeep
@@ -108,7 +108,7 @@ abbrev mutual
 abbrev pub ElementHasText : ℕ → View → Type 0
 ElementHasText n v = (has_bytes (message_type v) ≡ true) × HasText n v
 
--- Why it has not.
+-- Why not, for the reason e.
 abbrev pub ElementHasFlaw : TextError → ℕ → View → Type 0
 ElementHasFlaw e n v = ((e ≡ NoBytes) × (has_bytes (message_type v) ≡ false)) ⊎ HasFlaw e n v
 
@@ -116,7 +116,7 @@ ElementHasFlaw e n v = ((e ≡ NoBytes) × (has_bytes (message_type v) ≡ false
 abbrev pub EntryHasText : ℕ → View → View → Type 0
 EntryHasText n k v = (has_bytes (entry_of (message_type k) (message_type v)) ≡ true) × HasText n k × HasText n v
 
--- Why they have not.
+-- Why not, for the reason e.
 abbrev pub EntryHasFlaw : TextError → ℕ → View → View → Type 0
 EntryHasFlaw e n k v = ((e ≡ NoBytes) × (has_bytes (entry_of (message_type k) (message_type v)) ≡ false)) ⊎ (HasFlaw e n k ⊎ HasFlaw e n v)
 
@@ -124,7 +124,7 @@ EntryHasFlaw e n k v = ((e ≡ NoBytes) × (has_bytes (entry_of (message_type k)
 abbrev pub NamedHaveText : ℕ → Kind → NamedViews → Type 0
 NamedHaveText n kind ns = AreSomeNames kind ns × ContentsHaveText n ns
 
--- Why they have not.
+-- Why not, for the reason e.
 abbrev pub NamedHaveFlaw : TextError → ℕ → Kind → NamedViews → Type 0
 NamedHaveFlaw e n kind ns = HasNamesFlaw e kind ns ⊎ SomeContentHasFlaw e n ns
 
