@@ -9,7 +9,7 @@ use std::process::Abort;
 type Call<'a> = (&'a [&'a str], &'a str, &'a str, u8);
 
 /// Calls with a type in a file, and calls that name none.
-const CALLS: [Call; 12] = [
+const CALLS: [Call; 14] = [
     (
         &[
             "enc",
@@ -89,6 +89,19 @@ const CALLS: [Call; 12] = [
     ),
     (
         &["size", "@full.rs:Pair"],
+        "",
+        "pcard: full.rs: out of memory\n",
+        1,
+    ),
+    // A file without a name after it is a schema message.
+    (
+        &["size", "@types.rs"],
+        "",
+        "pcard: types.rs: name the type, as in @FILE:NAME\n",
+        2,
+    ),
+    (
+        &["size", "@full.rs"],
         "",
         "pcard: full.rs: out of memory\n",
         1,
