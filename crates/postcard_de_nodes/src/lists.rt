@@ -16,8 +16,9 @@ const PAUSE: usize = 16;
 /// them from there ([`Shaped::append_at_hand`]). Returns whether it did; if not, nothing is taken,
 /// and the caller reads the next element.
 ///
-/// If it didn't, `pause` is how many elements after that one are to be read one by one before the
-/// next try. Fails with `OutOfMemory` if the allocation fails, and takes nothing then.
+/// `pause` is 0 before the first call for a list, and then what the last call left: how many
+/// elements are to be read one by one before the next try. Fails with `OutOfMemory` if the
+/// allocation fails, and takes nothing then.
 #[inline(always)]
 pub fn append_at_hand<T: Shaped + Drop, F: Flavor>(
     items: &mut Vec<T>,
@@ -31,6 +32,10 @@ pub fn append_at_hand<T: Shaped + Drop, F: Flavor>(
         ((items.new.items ≡ items.old.items) × (flavor.new ≡ flavor.old))) }
     ensures refused { IfErr result (λ e. (e ≡ Error.OutOfMemory) × (flavor.new ≡ flavor.old)) }
 {
+    if *pause > 0 {
+        *pause -= 1;
+        return Ok(false);
+    }
     let at_hand = flavor.at_hand();
     match T::append_at_hand(items, at_hand, most)? {
         Some(len) => {

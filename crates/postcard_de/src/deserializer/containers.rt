@@ -32,7 +32,7 @@ fn push_announced<T: Drop>(
 {
     if items.len() == items.capacity() {
         let wanted = items.len().saturating_mul(3).max(first).min(announced);
-        // `wanted` is never 0. The `max` shows that to the prover.
+        // At least 1 in any case: so the prover knows that there is room.
         if items.reserve_exact(wanted.max(1)).is_err() {
             return Err(Error::OutOfMemory);
         }
@@ -60,7 +60,7 @@ impl<'de, F: Flavor> Deserializer<'de, F> {
             if appended {
                 continue;
             }
-            // A list that was lent to a call is kept in memory. `list` is kept in registers.
+            // The compiler keeps `items` in memory, since it is lent to a call, but not `list`.
             let mut list = items;
             let few = pause.min(left - 1) + 1;
             'one_by_one: for place in 0..few {
