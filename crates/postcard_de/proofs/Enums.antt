@@ -1,5 +1,5 @@
 -- Reading an enum: its index, and then the content of the variant of that index.
-use Rattle.std.proofs.Common.{◌≡◌, ℕ, zero, suc, ◌≤◌, inr, List, [], ◌∷◌, Ok, Result, IsErrAnd, refl, sym}
+use Rattle.std.proofs.Common.{◌≡◌, ℕ, zero, suc, ◌≤◌, inr, List, [], ◌∷◌, Option, Ok, Result, IsErrAnd, refl, sym}
 use Rattle.std.proofs.Common.{subst}
 use Rattle.postcard_wire.specs.declared.error.Error.{Error}
 use Rattle.postcard_wire.specs.declared.error.Error.TheVariants.{SerdeDeCustom}

@@ -1,6 +1,6 @@
 -- Reading parts in a row, as of a tuple or a struct: reading the first fails, or it was read and
 -- the others are read next.
-use Rattle.std.proofs.Common.{◌≡◌, ℕ, inl, inr, [], Ok, Result, IsErrAnd, refl}
+use Rattle.std.proofs.Common.{◌≡◌, ℕ, inl, inr, List, [], Option, Ok, Result, IsErrAnd, refl}
 use Rattle.std.proofs.Common.{sym}
 use Rattle.postcard_wire.specs.declared.error.Error.{Error}
 use Rattle.postcard_wire.specs.Tree.{Tree, Trees, Group, NoTrees, Then}

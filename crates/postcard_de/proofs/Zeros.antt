@@ -1,5 +1,5 @@
 -- Reading a number that isn't 0: the number is read, and 0 is refused.
-use Rattle.std.proofs.Common.{◌≡◌, ℕ, ◌∙◌, inr, ℤ, pos, List, Ok, Result, IsErrAnd, refl, ap, subst}
+use Rattle.std.proofs.Common.{◌≡◌, ℕ, ◌∙◌, inl, inr, ℤ, pos, List, Ok, Result, IsErrAnd, refl, ap, subst}
 use Rattle.std.specs.Int.{w8, cast_unsigned}
 use Rattle.postcard_wire.specs.declared.error.Error.{Error}
 use Rattle.postcard_wire.specs.declared.error.Error.TheVariants.{SerdeDeCustom}

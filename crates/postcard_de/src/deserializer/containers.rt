@@ -31,14 +31,15 @@ fn push_announced<T: Drop>(
     ensures only_out_of_memory { IsOkUnless result Error.OutOfMemory }
 {
     if items.len() == items.capacity() {
-        let wanted = items.len().saturating_mul(3).max(first).min(announced);
-        // At least 1 in any case: so the prover knows that there is room.
-        if items.reserve_exact(wanted.max(1)).is_err() {
+        let room = items.len().saturating_mul(3).max(first).min(announced);
+        if items.reserve_exact(room).is_err() {
             return Err(Error::OutOfMemory);
         }
     }
-    items.push_reserved(item);
-    Ok(())
+    match items.push(item) {
+        Ok(()) => Ok(()),
+        Err(_) => Err(Error::OutOfMemory),
+    }
 }
 
 impl<'de, F: Flavor> Deserializer<'de, F> {
@@ -53,21 +54,15 @@ impl<'de, F: Flavor> Deserializer<'de, F> {
         // Each element has at least one byte, except for types that write nothing.
         let first = self.flavor.at_hand().len().clamp(16, 128);
         let mut items = Vec::new(alloc);
+        let mut pause = 0;
         'elements: while items.len() < count {
             let left = count - items.len();
-            let mut pause = 0;
             let appended = lists::append_at_hand(&mut items, &mut self.flavor, left, &mut pause)?;
             if appended {
                 continue;
             }
-            // The compiler keeps `items` in memory, since it is lent to a call, but not `list`.
-            let mut list = items;
-            let few = pause.min(left - 1) + 1;
-            'one_by_one: for place in 0..few {
-                let item = E::read_element(alloc, self)?;
-                push_announced(&mut list, item, first, left - place)?;
-            }
-            items = list;
+            let item = E::read_element(alloc, self)?;
+            push_announced(&mut items, item, first, left)?;
         }
         Ok(items)
     }

@@ -1,4 +1,4 @@
-use Rattle.std.proofs.Common.{◌≡◌, suc, ◌-◌, ◌+◌, ◌≤◌, ◌∷◌, [], List, Vec, Global, vec_len, length, arith, ap, length-append}
+use Rattle.std.proofs.Common.{◌≡◌, suc, ◌-◌, ◌+◌, ◌∷◌, [], List, Vec, Global, vec_len, length, arith, ap, length-append}
 use Rattle.postcard_de_nodes.specs.ErrorLemmas.{with_memory}
 use Rattle.postcard_de_nodes.specs.ReadLemmas.{is_refusal}
 use Rattle.postcard_de.proofs.Lists.{going, going_same, goes_on, goes_on_by, going_stops, going_full, going_done}
@@ -49,44 +49,35 @@ elements-preserved-then-appended g c =
       so = rw read.1 (goes_on_by g.F.Flavor.lawful (rw rest at c.elements.invariant.so) read.4);
     }
 
-pub one_by_one-init : goal.one_by_one-init
-one_by_one-init g c =
+pub elements-smaller-then-appended : goal.elements-smaller-then-appended
+elements-smaller-then-appended g c =
     let old = c.elements.items in
     let new = c.append_at_hand.new.items in
-    let left = c.in_ok-count.count - c.len-in-elements.result in
-    let same = rw c.if-appended.false at c.in_ok-appended.ensures.reads in
-    let kept = ap (λ (z : List g.row.T.Denot). length z) same.0 in
-    let whole : left - 0 ≡ left = omega arith in
-    record {
-      len = omega (arith, old.ok.0, new.ok.0, kept, c.len-in-elements.ensures, c.elements-test.true);
-      so = λ start before. rw whole before;
-    }
+    let read = rw c.if-appended.true at c.in_ok-appended.ensures.reads in
+    let grown = ap (λ (z : List g.row.T.Denot). length z) read.1 in
+    let sum = length-append old.items read.0 in
+    omega (arith, old.ok.0, new.ok.0, grown, sum, read.2, read.3, c.elements-test.true)
 
 pub returns-in_err-item : goal.returns-in_err-item
 returns-in_err-item g c =
     let laws = g.F.Flavor.lawful in
-    let place = c.one_by_one.place in
-    let left = c.in_ok-count.count - c.len-in-elements.result in
-    let more : left - place ≡ suc (left - (place + 1)) =
-    omega (arith, c.one_by_one-test.true, c.min-few.ensures, c.len-in-elements.ensures, c.elements-test.true) in
-    let whole : c.in_ok-count.count - vec_len c.elements.items ≡ left = omega (arith, c.len-in-elements.ensures) in
+    let len = vec_len c.elements.items in
+    let n = c.in_ok-count.count in
+    let more : n - len ≡ suc (n - (len + 1)) = omega (arith, c.elements-test.true) in
     let same = rw c.if-appended.false at c.in_ok-appended.ensures.reads in
-    let before = going_same laws same (rw whole at c.elements.invariant.so) in
     let e = c.in_err-item.field-0.0 in
     rw (is_refusal c.from_residual-in_err-item.result e c.from_residual-in_err-item.ensures.1)
     (list_refused laws (λ (v : Vec g.row.T.Denot Global). v.items) c.in_ok-count.ensures.reads
-    (going_stops laws (with_memory _) (rw more at (c.one_by_one.invariant.so _ before)) c.in_err-item.ensures))
+    (going_stops laws (with_memory _) (going_same laws same (rw more at c.elements.invariant.so))
+    c.in_err-item.ensures))
 
 pub returns-in_err-push_announced : goal.returns-in_err-push_announced
 returns-in_err-push_announced g c =
     let laws = g.F.Flavor.lawful in
-    let place = c.one_by_one.place in
-    let left = c.in_ok-count.count - c.len-in-elements.result in
-    let more : left - place ≡ suc (left - (place + 1)) =
-    omega (arith, c.one_by_one-test.true, c.min-few.ensures, c.len-in-elements.ensures, c.elements-test.true) in
-    let whole : c.in_ok-count.count - vec_len c.elements.items ≡ left = omega (arith, c.len-in-elements.ensures) in
+    let len = vec_len c.elements.items in
+    let n = c.in_ok-count.count in
+    let more : n - len ≡ suc (n - (len + 1)) = omega (arith, c.elements-test.true) in
     let same = rw c.if-appended.false at c.in_ok-appended.ensures.reads in
-    let before = going_same laws same (rw whole at c.elements.invariant.so) in
     let e = c.in_err-push_announced.field-0.0 in
     rw (
       is_refusal c.from_residual-in_err-push_announced.result e
@@ -94,46 +85,37 @@ returns-in_err-push_announced g c =
       c.in_err-push_announced.ensures.only_out_of_memory,
     )
     (list_refused laws (λ (v : Vec g.row.T.Denot Global). v.items) c.in_ok-count.ensures.reads
-    (going_full laws tt (rw more at (c.one_by_one.invariant.so _ before)) c.in_ok-item.ensures.leaves))
+    (going_full laws tt (going_same laws same (rw more at c.elements.invariant.so))
+    c.in_ok-item.ensures.leaves))
 
-pub one_by_one-preserved : goal.one_by_one-preserved
-one_by_one-preserved g c =
-    let laws = g.F.Flavor.lawful in
-    let old = c.one_by_one.list in
+pub elements-preserved : goal.elements-preserved
+elements-preserved g c =
+    let n = c.in_ok-count.count in
+    let old = c.elements.items in
     let new = c.push_announced.new.items in
-    let place = c.one_by_one.place in
-    let left = c.in_ok-count.count - c.len-in-elements.result in
-    let more : left - place ≡ suc (left - (place + 1)) =
-    omega (arith, c.one_by_one-test.true, c.min-few.ensures, c.len-in-elements.ensures, c.elements-test.true) in
+    let same = rw c.if-appended.false at c.in_ok-appended.ensures.reads in
+    let more : n - vec_len old ≡ suc (n - (vec_len old + 1)) = omega (arith, c.elements-test.true) in
+    let kept = ap (λ (z : List g.row.T.Denot). length z) same.0 in
     let pushed = c.in_ok-push_announced.ensures.pushed in
     let grown = ap (λ (z : List g.row.T.Denot). length z) pushed in
-    let sum = length-append old.items (c.in_ok-item.item ∷ []) in
+    let sum = length-append c.append_at_hand.new.items.items (c.in_ok-item.item ∷ []) in
+    let rest : n - vec_len new ≡ n - (vec_len old + 1) =
+    omega (arith, old.ok.0, new.ok.0, kept, grown, sum) in
     record {
-      len = omega (arith, old.ok.0, new.ok.0, grown, sum, c.one_by_one.invariant.len);
-      so = λ start before. rw pushed
-          (goes_on laws (with_memory _) (rw more at (c.one_by_one.invariant.so start before)) c.in_ok-item.ensures);
+      within = omega (arith, old.ok.0, new.ok.0, kept, grown, sum, c.elements-test.true);
+      so = rw (pushed, rest) (goes_on g.F.Flavor.lawful (with_memory _)
+          (going_same g.F.Flavor.lawful same (rw more at c.elements.invariant.so)) c.in_ok-item.ensures);
     }
 
 pub elements-smaller : goal.elements-smaller
 elements-smaller g c =
-    omega (arith, c.one_by_one.invariant.len, c.one_by_one-test.false, c.min-few.ensures, c.len-in-elements.ensures, c.elements-test.true)
-
-pub elements-preserved : goal.elements-preserved
-elements-preserved g c =
-    let laws = g.F.Flavor.lawful in
-    let n = c.in_ok-count.count in
-    let left = n - c.len-in-elements.result in
-    let whole : c.in_ok-count.count - vec_len c.elements.items ≡ left = omega (arith, c.len-in-elements.ensures) in
+    let old = c.elements.items in
+    let new = c.push_announced.new.items in
     let same = rw c.if-appended.false at c.in_ok-appended.ensures.reads in
-    let before = going_same laws same (rw whole at c.elements.invariant.so) in
-    let few : c.one_by_one.place ≤ left =
-    omega (arith, c.one_by_one.auto.place-end, c.min-few.ensures, c.len-in-elements.ensures, c.elements-test.true) in
-    let rest : left - c.one_by_one.place ≡ n - vec_len c.one_by_one.list =
-    omega (arith, c.one_by_one.invariant.len, c.len-in-elements.ensures, c.elements-test.true) in
-    record {
-      within = omega (arith, few, c.one_by_one.invariant.len, c.len-in-elements.ensures, c.elements-test.true);
-      so = rw rest at (c.one_by_one.invariant.so _ before);
-    }
+    let kept = ap (λ (z : List g.row.T.Denot). length z) same.0 in
+    let grown = ap (λ (z : List g.row.T.Denot). length z) c.in_ok-push_announced.ensures.pushed in
+    let sum = length-append c.append_at_hand.new.items.items (c.in_ok-item.item ∷ []) in
+    omega (arith, old.ok.0, new.ok.0, kept, grown, sum, c.elements-test.true)
 
 pub returns : goal.returns
 returns g c =

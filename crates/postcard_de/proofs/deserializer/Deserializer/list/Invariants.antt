@@ -1,4 +1,4 @@
-use Rattle.std.specs.Prelude.{◌≡◌, ◌+◌, ◌-◌, ◌≤◌, vec_len}
+use Rattle.std.specs.Prelude.{◌-◌, ◌≤◌, vec_len}
 use Rattle.postcard_shape.specs.Shape.{or_memory}
 use Rattle.postcard_de.specs.Deserializer.{source_of}
 use Rattle.postcard_de.proofs.Lists.{Going}
@@ -14,15 +14,3 @@ invariant-elements g l = let f = g.F.Flavor in let t = g.T.Shaped.shape in
 
 abbrev pub decreases-elements : goal.decreases-elements
 decreases-elements g l = l.count - vec_len l.items
-
--- However the elements were read before, one by one the next ones are read, too.
-abbrev pub invariant-one_by_one : goal.invariant-one_by_one
-invariant-one_by_one g l = let f = g.F.Flavor in let t = g.T.Shaped.shape in
-    record {
-      len : vec_len l.list + l.left ≡ l.count + l.place;
-      so : (start : g.row.F.Denot) →
-          Going f.left f.able f.may_leave t.reads t.value (or_memory t.other) start l.count
-          l.initial.list.items (source_of l.initial.self) l.left →
-          Going f.left f.able f.may_leave t.reads t.value (or_memory t.other) start l.count
-          l.list.items (source_of l.self) (l.left - l.place);
-    }

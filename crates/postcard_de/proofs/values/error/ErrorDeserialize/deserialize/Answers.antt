@@ -1,5 +1,5 @@
 -- An index of an error has no content after it; any other index is refused.
-use Rattle.std.proofs.Common.{◌≡◌, ℕ, ◌<◌, ◌≤◌, Ok, sym, ap, ap₂, ◌∙◌, arith, rules}
+use Rattle.std.proofs.Common.{◌≡◌, ℕ, ◌<◌, ◌≤◌, List, Option, Ok, refl, sym, ap, ap₂, ◌∙◌, arith, rules}
 use Rattle.postcard_wire.specs.Tree.{Variant, Group, NoTrees}
 use Rattle.postcard_wire.specs.Spelling.{Spells}
 use Rattle.postcard_wire.specs.Reading.{IsEnd, IsGroup}

@@ -1,5 +1,5 @@
 -- The octets of an address that is made of sixteen octets are these.
-use Rattle.std.proofs.Common.{ap, ◌∙◌, arith}
+use Rattle.std.proofs.Common.{◌≡◌, ap, ◌∙◌, arith}
 use Rattle.std.specs.Net.Addr.{octets_of}
 use Rattle.postcard_de.proofs.Addresses.{octets_back}
 use Rattle.postcard_de.proofs.values.net.Ipv6AddrFromRepr.from_repr.Goals as goal
