@@ -13,7 +13,7 @@ use Rattle.postcard_schema.specs.declared.schema.Schema.{Schema}
 use Rattle.postcard_schema.specs.declared.schema.Schema.TheVariants as schemas
 use Rattle.postcard_schema_text.specs.Angled.{IsNameOf}
 use Rattle.postcard_schema_text.specs.Grammar.{IsExpression, IsPlain, IsType, IsWorded}
-use Rattle.postcard_schema_text.specs.Text.{AreBlank, IsSign, is_of_word}
+use Rattle.postcard_schema_text.specs.Text.{AreBlank, IsSign, IsWord, is_of_word}
 use Rattle.postcard_schema_text.specs.declared.names.TypeName.TheVariants as names
 use Rattle.pcard_files.specs.Written.{is_word}
 
@@ -46,12 +46,15 @@ no_blank = AllPass-from_list_all is_ascii_whitespace [] refl
 sign : (b : ℕ) → IsSign b (b ∷ [])
 sign b = ([], b ∷ [], no_blank, refl, refl)
 
+word : (w : List ℕ) → list_all is_of_word w ≡ true → IsWord w w
+word w pass = (AllPass-from_list_all is_of_word w pass, ([], w, no_blank, refl, refl))
+
 -- The name is one of the type, in any brackets.
 named : (n : ℕ) (l : Leaf) → IsWordOf l → IsType (suc n) (schemas.Leaf l) (leaf_name l)
 unfolding IsType
 named n l (name, pass) =
     let worded : IsWorded (IsType n) (schemas.Leaf l) (leaf_name l) =
-    (names.Leaf l, leaf_name l, name, (leaf_name l, [], (AllPass-from_list_all is_of_word (leaf_name l) pass, ([], leaf_name l, no_blank, refl, refl)), (refl, refl), sym (append-nil (leaf_name l)))) in
+    (names.Leaf l, leaf_name l, name, (leaf_name l, [], word (leaf_name l) pass, (refl, refl), sym (append-nil (leaf_name l)))) in
     inr (0, lit≤ tt, (0, inl worded))
 
 -- In brackets a type is the same type.

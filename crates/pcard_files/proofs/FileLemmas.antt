@@ -64,12 +64,16 @@ pub found_of_file : {A : Type 0} (see : A → List ℕ) (gives : List ℕ → Li
     (r : Result A TypeFault) → gives file content → bytes ≡ content → name ≡ same
     → IfOk r (λ a. IsTextIn bytes same (see a)) → IfOk r (λ a. HasExpression gives file name (see a))
 found_of_file see gives file name same content bytes r given are equal found =
-    IfOk-weaker r _ _ (λ a h. (content, given, subst (λ b. IsTextIn b name (see a)) are (subst (λ n. IsTextIn bytes n (see a)) (sym equal) h))) found
+    IfOk-weaker r _ _
+    (λ a h. (content, given, subst (λ b. IsTextIn b name (see a)) are (subst (λ n. IsTextIn bytes n (see a)) (sym equal) h)))
+    found
 
 pub refused_of_file : {A : Type 0} (gives : List ℕ → List ℕ → Type 0) (lacks : List ℕ → Type 0) (file : List ℕ) (name same : Option (List ℕ)) (content bytes : List ℕ)
     (r : Result A TypeFault) → gives file content → bytes ≡ content → name ≡ same
     → IfErr r (IsFaultIn bytes same) → IfErr r (IsFaultOf gives lacks file name)
 refused_of_file gives lacks file name same content bytes r given are equal refused =
     IfErr-weaker r _ _
-    (λ fault h. fault_of_file gives lacks file name content fault given (subst (λ b. IsFaultIn b name fault) are (subst (λ n. IsFaultIn bytes n fault) (sym equal) h)))
+    (λ fault h.
+    let named = subst (λ n. IsFaultIn bytes n fault) (sym equal) h in
+    fault_of_file gives lacks file name content fault given (subst (λ b. IsFaultIn b name fault) are named))
     refused

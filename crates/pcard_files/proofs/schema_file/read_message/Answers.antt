@@ -8,9 +8,9 @@ returns-then-not-is_empty c =
     (c.in-Ok.read.0, c.in-Ok.read.1.now, c.in-Ok.ensures.gives, some_left c.in-Ok.read.1.now (sym c.is_empty.ensures ∙ c.if-not-is_empty.true))
 
 pub returns-in-Ok-schema_of : goal.returns-in-Ok-schema_of
-returns-in-Ok-schema_of c = record {
+returns-in-Ok-schema_of c = let none = none_left c.in-Ok.read.1.now (sym c.is_empty.ensures ∙ c.if-not-is_empty.false) in record {
   nodes = c.in-Ok.read.0;
-  encoded = subst (BeginsWith c.args.bytes.now c.in-Ok.read.0) (none_left c.in-Ok.read.1.now (sym c.is_empty.ensures ∙ c.if-not-is_empty.false)) c.in-Ok.ensures.gives;
+  encoded = subst (BeginsWith c.args.bytes.now c.in-Ok.read.0) none c.in-Ok.ensures.gives;
   are = c.in-Ok-schema_of.ensures.sent;
 }
 
