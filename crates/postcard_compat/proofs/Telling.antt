@@ -1,14 +1,13 @@
 -- The words of a value, part by part.
-use Rattle.std.proofs.Common.{◌≡◌, ℕ, zero, suc, ◌+◌, ◌<◌, ◌≤◌, List, [], ◌∷◌, ◌++◌, length, get_or, drop, map, Vec, Box, Global, rules, refl, sym, ap, ◌∙◌, arith, append_assoc, append-nil}
+use Rattle.std.proofs.Common.{◌≡◌, ℕ, zero, suc, ◌+◌, ◌<◌, ◌≤◌, List, [], ◌∷◌, ◌++◌, length, get_or, drop, map, refl, sym, ap, ◌∙◌, arith, append_assoc, append-nil}
 use Rattle.std.proofs.lemmas.List.{drop_more, length-map, map-append}
 use Rattle.std.proofs.Math.ListN.{drop_of_length-le}
-use Rattle.postcard_wire.specs.Tree.{Tree, Group, Seq, Variant, Then, count, trees}
+use Rattle.postcard_wire.specs.Tree.{Tree, Group, Seq, Then, count, trees}
 use Rattle.postcard_schema.specs.declared.schema.Named.{Named}
 use Rattle.postcard_schema.specs.declared.schema.Schema.{Schema}
 use Rattle.postcard_schema.specs.Meaning.{MessageType, contents, entry_of, type_of, types_of}
 use Rattle.postcard_value.specs.Tree.{tree}
-use Rattle.postcard_value.specs.declared.value.Value.{Value, the_lemmas}
-use Rattle.postcard_value.specs.declared.value.Value as values
+use Rattle.postcard_value.specs.declared.value.Value.{Value}
 use Rattle.postcard_compat.specs.Telling.{Appends, IsPair, word_of, words_of}
 use Rattle.postcard_compat.specs.Said.{Word, Saying, Count, End, each_said, elements_said, list_said, said, said_all, said_at}
 use Rattle.postcard_compat.specs.declared.word.Word.{Word as Spoken}
@@ -35,17 +34,6 @@ going_on start now next x left all h e = ap (λ ws. ws ++ left) e ∙ (append_as
 -- Once no part is left, the words are complete.
 pub going_ends : (start now : List Spoken) (left all : List Word) → Going start now left all → left ≡ [] → Appends start now all
 going_ends start now left all h e = sym (append-nil (words_of now)) ∙ (ap (λ ws. words_of now ++ ws) (sym e) ∙ h)
-
--- ---- Trees of values
-
-pub tree_of_seq : (v : Vec Value Global) → tree (values.Seq v) ≡ Seq (trees (map tree v.items))
-tree_of_seq v = search (rules, the_lemmas)
-
-pub tree_of_group : (v : Vec Value Global) → tree (values.Group v) ≡ Group (trees (map tree v.items))
-tree_of_group v = search (rules, the_lemmas)
-
-pub tree_of_variant : (i : ℕ) (held : Box Value Global) → tree (values.Variant i held) ≡ Variant i (tree held.value)
-tree_of_variant i held = search (rules, the_lemmas)
 
 -- ---- Items
 

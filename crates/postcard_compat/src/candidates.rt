@@ -6,7 +6,6 @@ use crate::change::{Difference, Turn};
 use crate::example::encoded;
 use make::{FILLS, Fill, Maker, TELLING, make};
 use postcard_schema::Schema;
-use postcard_value::Value;
 use std::alloc::{AllocError, Global};
 
 /// How many messages are made at random.
@@ -98,22 +97,14 @@ fn add(
         return Ok(());
     }
     maker.room = ROOM;
-    match make(maker, old, way)? {
-        Some(value) => keep(maker.alloc, &value, found),
-        None => {
-            found.cost = COST;
-            Ok(())
-        }
-    }
-}
-
-/// Adds the message of a value. Does nothing if the message is too long.
-fn keep(alloc: Global, value: &Value, found: &mut Messages) -> Result<(), AllocError> {
-    let bytes = encoded(alloc, value)?;
-    if bytes.len() > ROOM {
+    let Some(value) = make(maker, old, way)? else {
+        found.cost = COST;
         return Ok(());
+    };
+    let bytes = encoded(maker.alloc, &value)?;
+    if bytes.len() <= ROOM {
+        found.cost = found.cost.saturating_add(bytes.len()).saturating_add(64);
+        found.messages.push(bytes)?;
     }
-    found.cost = found.cost.saturating_add(bytes.len()).saturating_add(64);
-    found.messages.push(bytes)?;
     Ok(())
 }

@@ -40,27 +40,38 @@ pub fn both(alloc: Global, old: &Schema, new: &Schema) -> Result<Option<Schema>,
 }
 
 /// Returns the new type with the wider of each two integers, and the further variants of the old
-/// type. Other parts that differ are those of the new type. A type joined with itself is a copy.
+/// type. Other parts that differ are those of the new type.
 #[cycle(join)]
 pub(crate) fn join(alloc: Global, new: &Schema, old: &Schema) -> Result<Schema, AllocError> {
-    match new {
-        Schema::Leaf(new) => Ok(Schema::Leaf(join_leaf(*new, old))),
-        Schema::Option(new) => Ok(Schema::Option(boxed(alloc, new, option_or(old, new))?)),
-        Schema::Seq(new) => Ok(Schema::Seq(boxed(alloc, new, list_or(old, new))?)),
-        Schema::Map(key, value) => {
-            let key = boxed(alloc, key, key_or(old, key))?;
-            Ok(Schema::Map(key, boxed(alloc, value, value_or(old, value))?))
+    match (new, old) {
+        (Schema::Leaf(new), Schema::Leaf(old)) => Ok(Schema::Leaf(wider(*new, *old))),
+        (Schema::Option(new), Schema::Option(old)) => Ok(Schema::Option(boxed(alloc, new, old)?)),
+        (Schema::Seq(new), Schema::Seq(old)) => Ok(Schema::Seq(boxed(alloc, new, old)?)),
+        (Schema::Map(key, value), Schema::Map(old_key, old_value)) => {
+            let key = boxed(alloc, key, old_key)?;
+            Ok(Schema::Map(key, boxed(alloc, value, old_value)?))
         }
-        Schema::Array(new, count) => {
-            Ok(Schema::Array(boxed(alloc, new, array_or(old, new))?, *count))
+        (Schema::Array(new, count), Schema::Array(old, _)) => {
+            Ok(Schema::Array(boxed(alloc, new, old)?, *count))
         }
-        Schema::Tuple(new) => {
-            Ok(Schema::Tuple(join_parts(alloc, new, row_or(old, Row::Plain(new)))?))
+        (Schema::Tuple(new), Schema::Tuple(old)) => {
+            Ok(Schema::Tuple(join_parts(alloc, new, Row::Plain(old))?))
         }
-        Schema::Struct(new) => {
-            Ok(Schema::Struct(join_named(alloc, new, row_or(old, Row::Named(new)))?))
+        (Schema::Tuple(new), Schema::Struct(old)) => {
+            Ok(Schema::Tuple(join_parts(alloc, new, Row::Named(old))?))
         }
-        Schema::Enum(new) => join_variants(alloc, new, old),
+        (Schema::Struct(new), Schema::Tuple(old)) => {
+            Ok(Schema::Struct(join_named(alloc, new, Row::Plain(old))?))
+        }
+        (Schema::Struct(new), Schema::Struct(old)) => {
+            Ok(Schema::Struct(join_named(alloc, new, Row::Named(old))?))
+        }
+        (Schema::Enum(new), Schema::Enum(old)) => {
+            let mut joined = join_named(alloc, new, Row::Named(old))?;
+            push_from(alloc, old, new.len(), &mut joined)?;
+            Ok(Schema::Enum(joined))
+        }
+        _ => new.try_clone(alloc),
     }
 }
 
@@ -68,20 +79,6 @@ pub(crate) fn join(alloc: Global, new: &Schema, old: &Schema) -> Result<Schema, 
 fn boxed(alloc: Global, new: &Schema, old: &Schema) -> Result<Box<Schema>, AllocError> {
     let joined = join(alloc, new, old)?;
     Ok(Box::new(alloc, joined)?)
-}
-
-#[cycle(join)]
-fn join_variants(
-    alloc: Global,
-    new: &Vec<Named<Schema>>,
-    old: &Schema,
-) -> Result<Schema, AllocError> {
-    let Schema::Enum(old) = old else {
-        return Ok(Schema::Enum(join_named(alloc, new, Row::Named(new))?));
-    };
-    let mut joined = join_named(alloc, new, Row::Named(old))?;
-    push_from(alloc, old, new.len(), &mut joined)?;
-    Ok(Schema::Enum(joined))
 }
 
 /// Returns each part joined with the one at its place in the old row, if there is one.
@@ -133,63 +130,6 @@ fn renamed(
 ) -> Result<Named<Schema>, AllocError> {
     let name = String::from_str(alloc, &part.name)?;
     Ok(Named { name, content })
-}
-
-/// Returns the content of an option, or `other` for another type.
-fn option_or<'a>(schema: &'a Schema, other: &'a Schema) -> &'a Schema {
-    match schema {
-        Schema::Option(content) => content,
-        _ => other,
-    }
-}
-
-/// Returns the type of the elements of a list, or `other` for another type.
-fn list_or<'a>(schema: &'a Schema, other: &'a Schema) -> &'a Schema {
-    match schema {
-        Schema::Seq(element) => element,
-        _ => other,
-    }
-}
-
-/// Returns the type of the elements of an array, or `other` for another type.
-fn array_or<'a>(schema: &'a Schema, other: &'a Schema) -> &'a Schema {
-    match schema {
-        Schema::Array(element, _) => element,
-        _ => other,
-    }
-}
-
-/// Returns the type of the keys of a map, or `other` for another type.
-fn key_or<'a>(schema: &'a Schema, other: &'a Schema) -> &'a Schema {
-    match schema {
-        Schema::Map(key, _) => key,
-        _ => other,
-    }
-}
-
-/// Returns the type of the values of a map, or `other` for another type.
-fn value_or<'a>(schema: &'a Schema, other: &'a Schema) -> &'a Schema {
-    match schema {
-        Schema::Map(_, value) => value,
-        _ => other,
-    }
-}
-
-/// Returns the parts of a tuple or a struct, or `other` for another type.
-fn row_or<'a>(schema: &'a Schema, other: Row<'a>) -> Row<'a> {
-    match schema {
-        Schema::Tuple(parts) => Row::Plain(parts),
-        Schema::Struct(fields) => Row::Named(fields),
-        _ => other,
-    }
-}
-
-/// Returns the type of the old part if it serves the new one, and the new one otherwise.
-fn join_leaf(new: Leaf, old: &Schema) -> Leaf {
-    match old {
-        Schema::Leaf(old) => wider(new, *old),
-        _ => new,
-    }
 }
 
 /// Returns the old type if it serves the new one, and the new one otherwise.

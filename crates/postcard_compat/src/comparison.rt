@@ -1,8 +1,8 @@
 //! Whether a new version of a type reads what the old version wrote: [`compare`].
 
-ghost use Rattle.std.specs.Prelude.{◌≡◌, IfOk, IfSome, false, true};
+ghost use Rattle.std.specs.Prelude.{◌≡◌, IfOk, IfSome, true};
 ghost use Rattle.postcard_compat.specs.{HasMove, IsCompared, IsExample, Means, NeverMisreads};
-ghost use Rattle.postcard_compat.specs.{Relates, Shows, said, tree, type_of};
+ghost use Rattle.postcard_compat.specs.{Relates, Shows, type_of};
 
 use crate::candidates::{Messages, candidates};
 use crate::change::Difference;
@@ -14,7 +14,6 @@ use crate::serves;
 use crate::walk::{Changes, differences};
 use crate::word::{same_words, words};
 use postcard_schema::{Named, Schema};
-use postcard_value::Value;
 use std::alloc::{AllocError, Global};
 
 /// Whether a new version of a type reads what the old version wrote.
@@ -221,29 +220,15 @@ fn outcome_of(
             if *left > 0 {
                 return Ok(Outcome::Left);
             }
-            if says_same(alloc, old, new, &example.value, value)? {
+            let old_words = words(alloc, old, &example.value)?;
+            let new_words = words(alloc, new, value)?;
+            if same_words(&old_words, &new_words) {
                 Ok(Outcome::Whole)
             } else {
                 Ok(Outcome::Other)
             }
         }
     }
-}
-
-/// Returns `true` if a value of the old type and one of the new type say the same.
-fn says_same(
-    alloc: Global,
-    old: &Schema,
-    new: &Schema,
-    value: &Value,
-    other: &Value,
-) -> Result<bool, AllocError>
-    ensures { IfOk result (λ same. same ≡ false
-        → said (type_of new.now) (tree other.now) ≡ said (type_of old.now) (tree value.now) → ⊥) }
-{
-    let old_words = words(alloc, old, value)?;
-    let new_words = words(alloc, new, other)?;
-    Ok(same_words(&new_words, &old_words))
 }
 
 /// Returns an example of two types, for the row of the old one. Returns `None` if the new type reads

@@ -65,9 +65,12 @@ fn flat_row(alloc: Global, schema: &Schema) -> Result<Vec<Named<Schema>>, AllocE
         Schema::Option(content) => single(alloc, Schema::Option(boxed(alloc, content)?)),
         Schema::Seq(element) => single(alloc, Schema::Seq(boxed(alloc, element)?)),
         Schema::Map(key, value) => {
+            let mut entry = Vec::new(alloc);
             let key = flat_row(alloc, key)?;
+            append(alloc, &mut entry, "0", &key)?;
             let value = flat_row(alloc, value)?;
-            single(alloc, Schema::Seq(entry_of(alloc, &key, &value)?))
+            append(alloc, &mut entry, "1", &value)?;
+            single(alloc, Schema::Seq(Box::new(alloc, grouped(entry))?))
         }
         Schema::Array(element, count) => {
             let element = flat_row(alloc, element)?;
@@ -120,21 +123,6 @@ fn flat_variants(
         flat.push(Named { name, content })?;
     }
     Ok(flat)
-}
-
-/// Returns the type of the entries of a map, by the parts of its keys and of its values.
-fn entry_of(
-    alloc: Global,
-    key: &Vec<Named<Schema>>,
-    value: &Vec<Named<Schema>>,
-) -> Result<Box<Schema>, AllocError>
-    ensures { IfOk result (λ entry. SameMessages (type_of entry.value)
-        (group (row_of (part_types key.now.items ++ part_types value.now.items)))) }
-{
-    let mut entry = Vec::new(alloc);
-    append(alloc, &mut entry, "0", key)?;
-    append(alloc, &mut entry, "1", value)?;
-    Ok(Box::new(alloc, grouped(entry))?)
 }
 
 /// Returns the parts of an array whose elements have these parts.

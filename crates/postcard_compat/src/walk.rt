@@ -8,10 +8,10 @@ use crate::change::{Change, Kind, Turn};
 use crate::numbers::leaf_serves;
 use crate::word::greatest_bits;
 use names::{compare_names, compare_variant_names, report_added, variant_of};
-use parts::{Content, Part, content_of, part_of};
+use parts::{Content, content_of, part_of};
 use postcard_schema::{Integer, Leaf, Named, Schema};
 pub use report::Changes;
-use report::{Stop, report, report_at, report_inside, report_variant};
+use report::{Stop, report, report_at, report_variant};
 use std::alloc::{AllocError, Global};
 
 /// Returns how two flattened types differ. The two rows are compared part by part.
@@ -60,29 +60,21 @@ fn walk<'a>(
         report(alloc, way, Change::Removed { kind }, found)?;
         return Ok(false);
     };
-    if !walk_part(alloc, old, part.content, way, found)? {
+    let new_part = part.content;
+    let aligned = match old {
+        Schema::Leaf(leaf) => compare_leaves(alloc, *leaf, new_part, way, found)?,
+        Schema::Option(content) => walk_option(alloc, content, new_part, way, found)?,
+        Schema::Seq(element) => walk_list(alloc, element, new_part, way, found)?,
+        Schema::Array(element, count) => {
+            walk_array(alloc, element, *count, new_part, way, found)?
+        }
+        Schema::Enum(variants) => walk_variants(alloc, variants, new_part, way, found)?,
+        _ => retyped(alloc, Kind::of(old), new_part, way, found)?,
+    };
+    if !aligned {
         return Ok(false);
     }
     no_more(alloc, new, 1, way, found)
-}
-
-/// Does what [`walk`] does, for an old part that is no struct.
-#[cycle(walk)]
-fn walk_part<'a>(
-    alloc: Global,
-    old: &'a Schema,
-    new: &'a Schema,
-    way: &mut Vec<Stop<'a>>,
-    found: &mut Changes,
-) -> Result<bool, AllocError> {
-    match old {
-        Schema::Leaf(leaf) => compare_leaves(alloc, *leaf, new, way, found),
-        Schema::Option(content) => walk_option(alloc, content, new, way, found),
-        Schema::Seq(element) => walk_list(alloc, element, new, way, found),
-        Schema::Array(element, count) => walk_array(alloc, element, *count, new, way, found),
-        Schema::Enum(variants) => walk_variants(alloc, variants, new, way, found),
-        _ => retyped(alloc, Kind::of(old), new, way, found),
-    }
 }
 
 #[cycle(walk)]
@@ -95,36 +87,24 @@ fn walk_fields<'a>(
 ) -> Result<bool, AllocError> {
     compare_names(alloc, fields, new, way, found)?;
     for (index, field) in fields.iter().enumerate() {
-        let stop = Stop {
+        way.push(Stop {
             name: &field.name,
             turn: Turn::Part(index),
+        })?;
+        let aligned = match part_of(new, index) {
+            Some(part) => walk(alloc, &field.content, part.content, way, found)?,
+            None => {
+                let kind = Kind::of(&field.content);
+                report(alloc, way, Change::Removed { kind }, found)?;
+                false
+            }
         };
-        let part = part_of(new, index);
-        if !walk_field(alloc, stop, &field.content, part, way, found)? {
+        way.pop();
+        if !aligned {
             return Ok(false);
         }
     }
     no_more(alloc, new, fields.len(), way, found)
-}
-
-/// Does what [`walk`] does, for a field and the part at its place in the new row.
-#[cycle(walk)]
-fn walk_field<'a>(
-    alloc: Global,
-    stop: Stop<'a>,
-    old: &'a Schema,
-    new: Option<Part<'a>>,
-    way: &mut Vec<Stop<'a>>,
-    found: &mut Changes,
-) -> Result<bool, AllocError> {
-    match new {
-        Some(part) => walk_inside(alloc, stop, old, part.content, way, found),
-        None => {
-            let kind = Kind::of(old);
-            report_inside(alloc, way, stop, Change::Removed { kind }, found)?;
-            Ok(false)
-        }
-    }
 }
 
 /// Does what [`walk`] does, for parts to which one more step leads.
@@ -164,7 +144,9 @@ fn walk_option<'a>(
             if let Some(second) = variants.get(1) {
                 return walk_inside(alloc, stop, content, &second.content, way, found);
             }
-            no_variant(alloc, "Some", 1, way, found)
+            let variant = variant_of(alloc, "Some", 1)?;
+            report_variant(alloc, way, 1, Change::VariantRemoved { variant }, found)?;
+            Ok(true)
         }
         _ => retyped(alloc, Kind::Option, new, way, found),
     }
@@ -224,43 +206,21 @@ fn walk_variants<'a>(
             name: &variant.name,
             turn: Turn::Variant(index),
         };
-        let other = content_of(new, index);
-        let same = walk_variant(alloc, index, stop, &variant.content, other, way, found)?;
+        let same = match content_of(new, index) {
+            Content::Of(content) => {
+                walk_inside(alloc, stop, &variant.content, content, way, found)?
+            }
+            Content::Empty => no_more_of_old(alloc, stop, &variant.content, way, found)?,
+            Content::Unknown => {
+                let variant = variant_of(alloc, &variant.name, index)?;
+                report_variant(alloc, way, index, Change::VariantRemoved { variant }, found)?;
+                true
+            }
+        };
         aligned = aligned && same;
     }
     report_added(alloc, variants.len(), new, way, found)?;
     Ok(aligned)
-}
-
-/// Does what [`walk`] does, for the contents of the variants with an index.
-#[cycle(walk)]
-fn walk_variant<'a>(
-    alloc: Global,
-    index: usize,
-    stop: Stop<'a>,
-    old: &'a Schema,
-    new: Content<'a>,
-    way: &mut Vec<Stop<'a>>,
-    found: &mut Changes,
-) -> Result<bool, AllocError> {
-    match new {
-        Content::Of(content) => walk_inside(alloc, stop, old, content, way, found),
-        Content::Empty => no_more_of_old(alloc, stop, old, way, found),
-        Content::Unknown => no_variant(alloc, stop.name, index, way, found),
-    }
-}
-
-/// Reports a variant that the new type doesn't have.
-fn no_variant(
-    alloc: Global,
-    name: &str,
-    index: usize,
-    way: &mut Vec<Stop<'_>>,
-    found: &mut Changes,
-) -> Result<bool, AllocError> {
-    let variant = variant_of(alloc, name, index)?;
-    report_variant(alloc, way, index, Change::VariantRemoved { variant }, found)?;
-    Ok(true)
 }
 
 fn element_stop<'a>() -> Stop<'a> {

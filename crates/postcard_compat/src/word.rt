@@ -133,7 +133,21 @@ fn say(
         Schema::Leaf(leaf) => say_leaf(alloc, *leaf, value, words),
         Schema::Option(content) => say_option(alloc, content, value, words),
         Schema::Seq(element) => say_list(alloc, element, value, words),
-        Schema::Map(_, _) => say_map(alloc, schema, value, words),
+        Schema::Map(key, content) => {
+            let Value::Seq(entries) = value else {
+                return Err(AllocError);
+            };
+            words.push(Word::Count(entries.len()))?;
+            for entry in entries {
+                let Some((first, second)) = pair_of(entry) else {
+                    return Err(AllocError);
+                };
+                say(alloc, key, first, words)?;
+                say(alloc, content, second, words)?;
+                words.push(Word::End)?;
+            }
+            Ok(())
+        }
         Schema::Array(element, _) => say_array(alloc, element, value, words),
         Schema::Tuple(parts) => say_tuple(alloc, parts, value, words),
         Schema::Struct(fields) => say_struct(alloc, fields, value, words),
@@ -183,31 +197,6 @@ fn say_list(
     words.push(Word::Count(items.len()))?;
     for item in items {
         say(alloc, element, item, words)?;
-        words.push(Word::End)?;
-    }
-    Ok(())
-}
-
-#[cycle(say)]
-fn say_map(
-    alloc: Global,
-    map: &Schema,
-    value: &Value,
-    words: &mut Vec<Word>,
-) -> Result<(), AllocError>
-    ensures { OnOk result (Appends words.old.items words.new.items
-        (said (type_of map.now) (tree value.now))) }
-{
-    let (Schema::Map(key, content), Value::Seq(entries)) = (map, value) else {
-        return Err(AllocError);
-    };
-    words.push(Word::Count(entries.len()))?;
-    for entry in entries {
-        let Some((first, second)) = pair_of(entry) else {
-            return Err(AllocError);
-        };
-        say(alloc, key, first, words)?;
-        say(alloc, content, second, words)?;
         words.push(Word::End)?;
     }
     Ok(())

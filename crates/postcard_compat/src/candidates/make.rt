@@ -3,7 +3,7 @@
 ghost use Rattle.std.specs.Prelude.{◌≤◌};
 
 use crate::change::Turn;
-use postcard_schema::{Integer, Leaf, Named, Schema};
+use postcard_schema::{Leaf, Named, Schema};
 use postcard_value::Value;
 use std::alloc::{AllocError, Global};
 
@@ -168,26 +168,6 @@ fn variant_on<'a>(
     }
 }
 
-/// Returns the number of elements of a list, and the way in the first one.
-fn list_on<'a>(maker: &mut Maker, way: Option<&'a [Turn]>) -> (usize, Option<&'a [Turn]>) {
-    let count = maker.elements();
-    let Some(steps) = way else {
-        return (count, None);
-    };
-    match steps.split_first() {
-        Some((_, rest)) => (count.max(1), Some(rest)),
-        None => ((maker.telling % 4 + 1) % 4, None),
-    }
-}
-
-/// Returns the way in the first element of an array.
-fn array_on(way: Option<&[Turn]>) -> Option<&[Turn]> {
-    match way?.split_first() {
-        Some((_, rest)) => Some(rest),
-        None => way,
-    }
-}
-
 /// Returns a value of the type with a telling value at the end of the way. Without a way all parts
 /// are filled alike. Returns `None` if there is no room for its parts. So do the functions below.
 #[cycle(make)]
@@ -235,7 +215,17 @@ fn make_list(
     element: &Schema,
     way: Option<&[Turn]>,
 ) -> Result<Option<Value>, AllocError> {
-    let (count, first) = list_on(maker, way);
+    let mut count = maker.elements();
+    let mut first = None;
+    if let Some(steps) = way {
+        match steps.split_first() {
+            Some((_, rest)) => {
+                count = count.max(1);
+                first = Some(rest);
+            }
+            None => count = (maker.telling % 4 + 1) % 4,
+        }
+    }
     match make_elements(maker, element, count, first)? {
         Some(items) => Ok(Some(Value::Seq(items))),
         None => Ok(None),
@@ -252,7 +242,13 @@ fn make_array(
     if count > maker.room {
         return Ok(None);
     }
-    let first = array_on(way);
+    let first = match way {
+        Some(steps) => match steps.split_first() {
+            Some((_, rest)) => Some(rest),
+            None => way,
+        },
+        None => None,
+    };
     match make_elements(maker, element, count, first)? {
         Some(items) => Ok(Some(Value::Group(items))),
         None => Ok(None),
@@ -333,39 +329,47 @@ fn make_variant(
 
 fn make_leaf(maker: &mut Maker, leaf: Leaf, is_telling: bool) -> Result<Value, AllocError> {
     match leaf {
-        Leaf::Str => make_str(maker, is_telling),
-        // A flattened type has lists of `u8` in place of byte strings.
-        Leaf::Bytes => Ok(Value::Bytes(Vec::new(maker.alloc))),
-        Leaf::Bool => Ok(Value::Bool(make_bool(maker, is_telling))),
-        Leaf::Char => Ok(Value::Char(make_char(maker, is_telling))),
-        Leaf::Float(float) => Ok(Value::Float(float, float_bits(maker, is_telling))),
+        Leaf::Bool => {
+            let is_even = chosen(maker, 2, is_telling) % 2 == 0;
+            // The first telling value is `true`, and the least value `false`.
+            Ok(Value::Bool(is_even == is_telling))
+        }
         Leaf::Integer(integer) => {
-            Ok(Value::Integer(integer, number_bits(maker, integer, is_telling)))
+            let bits = number_bits(maker, integer.size(), is_telling);
+            Ok(Value::Integer(integer, bits))
         }
         Leaf::Fixed(order, integer) => {
-            Ok(Value::Fixed(order, integer, number_bits(maker, integer, is_telling)))
+            let bits = number_bits(maker, integer.size(), is_telling);
+            Ok(Value::Fixed(order, integer, bits))
         }
+        Leaf::Float(float) => {
+            let index = chosen(maker, FLOATS.len(), is_telling);
+            Ok(Value::Float(float, telling_float(index)))
+        }
+        Leaf::Char => {
+            let index = chosen(maker, CHARS.len(), is_telling);
+            Ok(Value::Char(telling_char(index)))
+        }
+        Leaf::Str => {
+            let index = chosen(maker, TEXTS.len(), is_telling);
+            let text = String::from_str(maker.alloc, telling_text(index))?;
+            Ok(Value::Str(text))
+        }
+        // A flattened type has lists of `u8` in place of byte strings.
+        Leaf::Bytes => Ok(Value::Bytes(Vec::new(maker.alloc))),
     }
 }
 
-fn make_str(maker: &mut Maker, is_telling: bool) -> Result<Value, AllocError> {
-    let index = chosen(maker, TEXTS.len(), is_telling);
-    let text = String::from_str(maker.alloc, TEXTS[index % TEXTS.len()])?;
-    Ok(Value::Str(text))
+fn telling_float(index: usize) -> u64 {
+    FLOATS[index % FLOATS.len()]
 }
 
-/// Returns `true` as the first telling value, and `false` as the least value.
-fn make_bool(maker: &mut Maker, is_telling: bool) -> bool {
-    let is_even = chosen(maker, 2, is_telling) % 2 == 0;
-    is_even == is_telling
+fn telling_char(index: usize) -> char {
+    CHARS[index % CHARS.len()]
 }
 
-fn make_char(maker: &mut Maker, is_telling: bool) -> char {
-    CHARS[chosen(maker, CHARS.len(), is_telling) % CHARS.len()]
-}
-
-fn float_bits(maker: &mut Maker, is_telling: bool) -> u64 {
-    FLOATS[chosen(maker, FLOATS.len(), is_telling) % FLOATS.len()]
+fn telling_text(index: usize) -> &'static str {
+    TEXTS[index % TEXTS.len()]
 }
 
 /// Returns the number of a telling value, or the index with which one of `count` values is filled.
@@ -377,11 +381,11 @@ fn chosen(maker: &mut Maker, count: usize, is_telling: bool) -> usize {
     }
 }
 
-/// Returns the bits of a number of this type.
-fn number_bits(maker: &mut Maker, integer: Integer, is_telling: bool) -> u128 {
+/// Returns the bits of a number of this size in bytes.
+fn number_bits(maker: &mut Maker, size: usize, is_telling: bool) -> u128 {
     if is_telling {
         NUMBERS[maker.telling % TELLING]
     } else {
-        maker.bits(integer.size())
+        maker.bits(size)
     }
 }

@@ -1,7 +1,7 @@
 //! Names of fields and variants that stand at another place, or that are new.
 
 use crate::change::{Change, Turn, Variant};
-use crate::walk::report::{Changes, Stop, path_of, report, report_inside, report_variant};
+use crate::walk::report::{Changes, Stop, path_of, report, report_variant};
 use postcard_schema::{Named, Schema};
 use std::alloc::{AllocError, Global};
 
@@ -28,7 +28,9 @@ pub(crate) fn compare_names<'a>(
         if is_moved || last_name(name) != last_name(new_name) {
             let change = name_change(alloc, way, new_name, is_moved)?;
             let turn = Turn::Part(index);
-            report_inside(alloc, way, Stop { name, turn }, change, found)?;
+            way.push(Stop { name, turn })?;
+            report(alloc, way, change, found)?;
+            way.pop();
         }
     }
     Ok(())
@@ -92,11 +94,13 @@ pub(crate) fn compare_variant_names<'a>(
             return Ok(());
         };
         let (old, new) = (variant.name.as_str(), other.name.as_str());
-        if old != new {
-            let is_moved = has_name(others, old) || has_name(variants, new);
-            let change = variant_change(alloc, old, index, new, is_moved)?;
-            report_variant(alloc, way, index, change, found)?;
+        if old == new {
+            continue;
         }
+        let variant = variant_of(alloc, old, index)?;
+        let is_moved = has_name(others, old) || has_name(variants, new);
+        let change = variant_change(alloc, variant, new, is_moved)?;
+        report_variant(alloc, way, index, change, found)?;
     }
     Ok(())
 }
@@ -104,12 +108,10 @@ pub(crate) fn compare_variant_names<'a>(
 /// Returns the change of a variant whose index has the name `new` now.
 fn variant_change(
     alloc: Global,
-    old: &str,
-    index: usize,
+    variant: Variant,
     new: &str,
     is_moved: bool,
 ) -> Result<Change, AllocError> {
-    let variant = variant_of(alloc, old, index)?;
     let name = String::from_str(alloc, new)?;
     if is_moved {
         return Ok(Change::VariantMoved { variant, name });

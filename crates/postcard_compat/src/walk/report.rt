@@ -28,22 +28,10 @@ pub(crate) fn report_variant(
     what: Change,
     found: &mut Changes,
 ) -> Result<(), AllocError> {
-    let stop = Stop {
+    way.push(Stop {
         name: "",
         turn: Turn::Variant(index),
-    };
-    report_inside(alloc, way, stop, what, found)
-}
-
-/// Appends a change of the part to which one more step leads.
-pub(crate) fn report_inside<'a>(
-    alloc: Global,
-    way: &mut Vec<Stop<'a>>,
-    stop: Stop<'a>,
-    what: Change,
-    found: &mut Changes,
-) -> Result<(), AllocError> {
-    way.push(stop)?;
+    })?;
     report(alloc, way, what, found)?;
     way.pop();
     Ok(())
@@ -67,33 +55,19 @@ pub(crate) fn report_at(
     what: Change,
     found: &mut Changes,
 ) -> Result<(), AllocError> {
+    let path = path_of(alloc, way, name)?;
+    let mut steps = Vec::with_capacity(alloc, way.len())?;
+    for stop in way {
+        steps.push(stop.turn)?;
+    }
     let is_note = what.is_note();
-    let difference = difference_of(alloc, way, name, what)?;
+    let difference = Difference { path, what, steps };
     if is_note {
         found.notes.push(difference)?;
     } else {
         found.differences.push(difference)?;
     }
     Ok(())
-}
-
-fn difference_of(
-    alloc: Global,
-    way: &Vec<Stop<'_>>,
-    name: &str,
-    what: Change,
-) -> Result<Difference, AllocError> {
-    let steps = steps_of(alloc, way)?;
-    let path = path_of(alloc, way, name)?;
-    Ok(Difference { path, what, steps })
-}
-
-fn steps_of(alloc: Global, way: &Vec<Stop<'_>>) -> Result<Vec<Turn>, AllocError> {
-    let mut steps = Vec::with_capacity(alloc, way.len())?;
-    for stop in way {
-        steps.push(stop.turn)?;
-    }
-    Ok(steps)
 }
 
 /// Returns the path of the part with a name after the way.

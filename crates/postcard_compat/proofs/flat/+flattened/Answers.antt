@@ -1,5 +1,5 @@
 -- `flattened` and the functions under it, by the kind of type. A row is built part by part (`Flattening`).
-use Rattle.std.proofs.Common.{◌≡◌, ◌<◌, ◌≤◌, [], ◌++◌, length, map, refl, sym, subst, ◌∙◌, arith}
+use Rattle.std.proofs.Common.{◌≡◌, ◌<◌, ◌≤◌, [], ◌++◌, length, map, ap, sym, subst, ◌∙◌, arith}
 use Rattle.std.proofs.lemmas.List.{take_all}
 use Rattle.std.proofs.lemmas.Result.{IfOk-weaker}
 use Rattle.postcard_schema.specs.Meaning.{group, row_of, type_of}
@@ -37,15 +37,20 @@ flat_row-returns-in_ok-boxed-in-Seq t c =
     IfOk-weaker c.single-in-Seq.result _ _ (λ row h. h (type_of c.args.schema.now)
     (flat_seq c.args.schema.now c.deref-in-Seq.result.now c.in-Seq.element c.in_ok-boxed-in-Seq.field-0 c.deref-in-Seq.ensures c.in_ok-boxed-in-Seq.ensures c.in-Seq.is)) c.single-in-Seq.ensures
 
-pub flat_row-returns-in_ok-entry_of-in-Map : goal.flat_row-returns-in_ok-entry_of-in-Map
-flat_row-returns-in_ok-entry_of-in-Map t c =
+pub flat_row-returns-in_ok-new-in-Map : goal.flat_row-returns-in_ok-new-in-Map
+flat_row-returns-in_ok-new-in-Map t c =
     let s = c.args.schema.now in
     let keys = part_types c.in_ok-key-in-Map.key.items in
     let values = part_types c.in_ok-value-in-Map.value.items in
+    let entry = part_types c.append-in-Map.new.row.items in
+    let box = c.in_ok-new-in-Map.field-0 in
+    let both : entry ≡ keys ++ values =
+    c.in_ok-append-in-Map-2.ensures ∙ ap (λ r. r ++ values) (c.in_ok-append-in-Map.ensures ∙ ap (λ ns. part_types ns ++ keys) c.new-entry.ensures.items) in
+    let whole : SameMessages (type_of box.value) (group (row_of entry)) =
+    subst (λ d. SameMessages (type_of d) (group (row_of entry))) (sym c.in_ok-new-in-Map.ensures.ok) c.grouped.ensures in
     IfOk-weaker c.single-in-Map.result _ _ (λ row h. h (type_of s)
-    (flat_map s c.deref-in-Map.result.now c.deref-in-Map-2.result.now c.in-Map.key c.in-Map.value c.in_ok-entry_of-in-Map.field-0 keys values (keys ++ values)
-    c.deref-in-Map.ensures c.deref-in-Map-2.ensures c.in_ok-key-in-Map.ensures c.in_ok-value-in-Map.ensures refl c.in_ok-entry_of-in-Map.ensures c.in-Map.is))
-    c.single-in-Map.ensures
+    (flat_map s c.deref-in-Map.result.now c.deref-in-Map-2.result.now c.in-Map.key c.in-Map.value box keys values entry c.deref-in-Map.ensures c.deref-in-Map-2.ensures
+    c.in_ok-key-in-Map.ensures c.in_ok-value-in-Map.ensures both whole c.in-Map.is)) c.single-in-Map.ensures
 
 pub flat_row-returns-in_ok-element-in-Array : goal.flat_row-returns-in_ok-element-in-Array
 flat_row-returns-in_ok-element-in-Array t c =

@@ -12,8 +12,8 @@ invariant-say_list-loop-item l =
     let f = said (type_of l.element) in
     Going l.initial.words.items l.words.items (each_left f l.item-items l.item-index) (each_said f (trees (map tree l.item-items)))
 
-abbrev pub invariant-say_map-loop-entry : goal.invariant-say_map-loop-entry
-invariant-say_map-loop-entry l =
+abbrev pub invariant-say-loop-entry : goal.invariant-say-loop-entry
+invariant-say-loop-entry l =
     let f = said (entry_of (type_of l.key.value) (type_of l.content.value)) in
     Going l.initial.words.items l.words.items (each_left f l.entry-items l.entry-index) (each_said f (trees (map tree l.entry-items)))
 
